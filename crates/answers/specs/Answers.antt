@@ -1,6 +1,6 @@
 -- The three kinds of answer of a call that writes into a lent output: a refusal's number, the length needed where the output is too short, and what is written.
 -- Assumes nothing.
-use Rattle.std.specs.Prelude.{true, false, List, ℕ, ◌-◌, leb, length}
+use Rattle.std.specs.Prelude.{true, false, List, ℕ, ◌-◌, length, nat_le, if◌then◌else◌}
 use Rattle.octets.specs.Octets.{padded, zeros}
 use Rattle.octets.specs.Checked.{Check, pass, refuse}
 use Rattle.numbers.specs.Refusals.{output_short}
@@ -15,7 +15,7 @@ pub data Answer : Type 0 where
 -- for an output of o bytes
 unfoldable pub answered : Check (List ℕ) → ℕ → Answer
 answered (refuse n) o = refused n
-answered (pass p) o = elim (leb (length p) o) [ true ↦ made p | false ↦ short (length p) ]
+answered (pass p) o = if nat_le (length p) o then made p else short (length p)
 
 -- an output of o bytes after the call: what is written and zeros, or zeros only
 unfoldable pub output_of : Answer → ℕ → List ℕ

@@ -1,7 +1,7 @@
 -- Demand 3 for one question, as `pack_and_look_up` answers it: the answer is the lookup's, whatever is asked; and the clauses of `Theorem.antt` that speak
 -- of an answer, told of its numbers.
 -- Assumes nothing.
-use Rattle.std.specs.Prelude.{◌≡◌, ◌⊎◌, ◌↔◌, false, List, [], ℕ, ◌+◌, ◌≤◌, ◌<◌, length, get_or}
+use Rattle.std.specs.Prelude.{◌≡◌, ◌⊎◌, ◌↔◌, false, List, [], ℕ, ◌+◌, ◌≤◌, ◌<◌, length, slice_index, slice_index_or}
 use Rattle.numbers.specs.Sections.{str_offsets_code, str_code}
 use Rattle.numbers.specs.Refusals.{no_string, output_short, other_version, no_entry}
 use Rattle.octets.specs.Octets.{part as bytes_at}
@@ -62,7 +62,7 @@ pub record StringTold (b p : List ℕ) (v table x k : ℕ) (r : FromBundle) : Ty
   pub the_table : Asked b v table → TableIn b p table
   pub a_unit : (u : Filed) → IsFirst b table x u → IsUnit u
   pub its_strings : (u : Filed) → Asked b v table → IsFirst b table x u → k < length (entries_of_unit u)
-      → (string : List ℕ) × (string_at no_string (u.input.bytes str_code) (get_or (entries_of_unit u) k 0) ≡ pass string) × Told p r (looks b table x) string
+      → (string : List ℕ) × (string_at no_string (u.input.bytes str_code) (slice_index (entries_of_unit u) k) ≡ pass string) × Told p r (looks b table x) string
   pub no_other_string : (u : Filed) → Asked b v table → IsFirst b table x u → length (entries_of_unit u) ≤ k → r.code ≡ no_entry
   pub absent_is_absent : Asked b v table → any (is_under table x) (handed_in b) ≡ false → ToldAbsent r (looks b table x)
   pub absent_ends : Asked b v table → any (is_under table x) (handed_in b) ≡ false → EndsUnused b table x
@@ -70,7 +70,7 @@ pub record StringTold (b p : List ℕ) (v table x k : ℕ) (r : FromBundle) : Ty
   pub finding_takes : r.code ≡ 0 → r.looks ≤ units_of p table
   pub absence_takes : r.looks ≤ units_of p table + 1
   pub string_reached : Asked b v table → r.code ≡ 0
-      → (i : ℕ) × (i < length (pieces (str_in p))) × (get_or (pieces (str_in p)) i [] ≡ ended (bytes_at p r.start r.length))
+      → (i : ℕ) × (i < length (pieces (str_in p))) × (slice_index_or (pieces (str_in p)) i [] ≡ ended (bytes_at p r.start r.length))
   pub the_other_version : is_index_version b v ≡ false → (handed_in b ≡ [] → ⊥) → r.code ≡ other_version
   pub never_refuses : Asked b v table → (r.code ≡ 0) ⊎ (r.code ≡ 1) ⊎ (r.code ≡ no_entry)
 

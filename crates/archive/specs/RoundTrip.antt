@@ -1,7 +1,7 @@
 -- Ticket 9: "For the package of an accepted bundle whose info holds a unit, reading the file by the rules of Ticket 2 gives the package back."
 -- So whoever holds only the .dwp file holds the package.
 -- Assumes nothing.
-use Rattle.std.specs.Prelude.{◌≡◌, ◌⊎◌, Bool, true, false, List, ℕ, ◌≤◌, ◌<◌, eqb, length}
+use Rattle.std.specs.Prelude.{◌≡◌, ◌⊎◌, Bool, true, false, List, ℕ, ◌≤◌, ◌<◌, length, ◌==◌}
 use Rattle.numbers.specs.Sections.{info_code}
 use Rattle.numbers.specs.Refusals.{no_unit, file_short}
 use Rattle.octets.specs.Lists.{any}
@@ -14,7 +14,7 @@ use Rattle.archive.specs.Theorem.{AreBytes}
 
 -- Ticket 2 takes the object word from the first unit of info. Without one, as in a version 4 package that has types only, it refuses the file by 33.
 unfoldable pub stands_in_info : Filed → Bool
-stands_in_info u = eqb u.home info_code
+stands_in_info u = u.home == info_code
 
 abbrev pub InfoHoldsAUnit : List ℕ → Type 0
 InfoHoldsAUnit b = any stands_in_info (handed_in b) ≡ true

@@ -1,6 +1,6 @@
 -- The str section of a package, as a reader holds it, cut after each zero byte.
 -- Assumes nothing.
-use Rattle.std.specs.Prelude.{true, false, List, [], ◌∷◌, ℕ, eqb}
+use Rattle.std.specs.Prelude.{true, false, List, [], ◌∷◌, ℕ, ◌==◌, if◌then◌else◌}
 use Rattle.numbers.specs.Sections.{str_code}
 use Rattle.octets.specs.Checked.{pass, refuse, ◌>>=◌}
 use Rattle.bundle.specs.Bundle.{bundle_of, body}
@@ -16,7 +16,7 @@ onto b (s ∷ ss) = (b ∷ s) ∷ ss
 -- "cut after each zero byte": every piece has its zero byte at its end; bytes after the last zero byte are a piece without one
 unfoldable pub pieces : List ℕ → List (List ℕ)
 pieces [] = []
-pieces (b ∷ s) = elim (eqb b 0) [ true ↦ (b ∷ []) ∷ pieces s | false ↦ onto b (pieces s) ]
+pieces (b ∷ s) = if b == 0 then (b ∷ []) ∷ pieces s else onto b (pieces s)
 
 -- the bytes of the package's str section, none where it is missing
 unfoldable pub str_in : List ℕ → List ℕ

@@ -1,7 +1,7 @@
 -- "Demand 3 is one claim, from bundle to answer, over the accepted set and the package as demand 2 defines them; its lookup rule is this section's."
 -- b is a bundle that packing accepts, p its package; every answer of both lookups on p is told from the units handed in with b.
 -- Assumes nothing.
-use Rattle.std.specs.Prelude.{◌≡◌, ◌⊎◌, ◌↔◌, Bool, true, false, ◌||◌, List, [], ◌∷◌, ◌++◌, map, ℕ, ◌+◌, ◌*◌, ◌-◌, ◌%◌, ◌≤◌, ◌<◌, eqb, leb, length, get_or}
+use Rattle.std.specs.Prelude.{◌≡◌, ◌⊎◌, ◌↔◌, Bool, true, false, ◌||◌, List, [], ◌∷◌, ◌++◌, map, ℕ, ◌+◌, ◌*◌, ◌-◌, ◌%◌, ◌≤◌, ◌<◌, length, ◌==◌, nat_le, slice_index, slice_index_or, if◌then◌else◌}
 use Rattle.std.proofs.Math.Option.{Option, some, none}
 use Rattle.numbers.specs.Tables.{compilation_table, type_table, dwarf5, index2, index5}
 use Rattle.numbers.specs.Sections.{str_offsets_code, str_code, first_shared, last_shared}
@@ -25,8 +25,8 @@ use Rattle.archive.specs.StrSection.{pieces, str_in, strings_named}
 -- ---- what is asked
 -- "The index version is 2 for objects of version 4, 5 for those of 5, and either one without objects"
 unfoldable pub is_version_of : List Object → ℕ → Bool
-is_version_of [] v = eqb v index2 || eqb v index5
-is_version_of (o ∷ os) v = elim (eqb (o.word % 256) dwarf5) [ true ↦ eqb v index5 | false ↦ eqb v index2 ]
+is_version_of [] v = v == index2 || v == index5
+is_version_of (o ∷ os) v = if o.word % 256 == dwarf5 then (v == index5) else (v == index2)
 
 unfoldable pub is_index_version : List ℕ → ℕ → Bool
 is_index_version b v = elim (bundle_of b) [ pass k ↦ is_version_of k.objects v | refuse n ↦ false ]
@@ -48,7 +48,7 @@ IsHandedIn b table x = any (is_under table x) (handed_in b) ≡ true
 
 -- a unit is for a table, whatever its identity
 unfoldable pub is_for : ℕ → Filed → Bool
-is_for table u = eqb u.table table
+is_for table u = u.table == table
 
 -- "First is first in the bundle: the kept one."
 pub record IsFirst (b : List ℕ) (table x : ℕ) (u : Filed) : Type 0 where
@@ -61,12 +61,14 @@ pub record IsFirst (b : List ℕ) (table x : ℕ) (u : Filed) : Type 0 where
 -- "Its unit bytes are the part at code 1, or 2 for a unit of types; at codes 3 to 10 the part is its contribution, at 6 in length only;
 -- where it has none, and at the other of 1 and 2, the part is empty." Here its contribution at 6 too; `TheFirstUnitInLength` takes its length.
 unfoldable pub handed_part : Filed → ℕ → List ℕ
-handed_part u code = elim (eqb code u.home) [ true ↦ u.bytes | false ↦ elim (leb first_shared code) [ true ↦ contributed u code | false ↦ [] ] ]
+handed_part u code = if code == u.home
+    then u.bytes
+    else if nat_le first_shared code then contributed u code else []
 
 -- ---- probing
 -- the identities placed in a table: those of its kept units, in order
 unfoldable pub identities_of : List ℕ → ℕ → List ℕ
-identities_of b table = map (λ u. u.identity) (those (λ u. eqb u.table table) (kept (handed_in b)))
+identities_of b table = map (λ u. u.identity) (those (λ u. u.table == table) (kept (handed_in b)))
 
 -- the slots written for them, none where there are no units
 unfoldable pub slots_written : List ℕ → Slots
@@ -143,7 +145,7 @@ TheFirstUnitInLength b p =
 abbrev pub ItsStrings : List ℕ → List ℕ → Type 0
 ItsStrings b p =
     (v table x k : ℕ) (u : Filed) → Asked b v table → IsFirst b table x u → k < length (entries_of_unit u)
-    → (string : List ℕ) × (string_at no_string (u.input.bytes str_code) (get_or (entries_of_unit u) k 0) ≡ pass string)
+    → (string : List ℕ) × (string_at no_string (u.input.bytes str_code) (slice_index (entries_of_unit u) k) ≡ pass string)
     × Holds p (string_found p v table x k) (looks b table x) string
 
 -- "any other index is 25"
@@ -161,7 +163,7 @@ AbsentIsAbsent b p =
 abbrev pub EndsUnused : List ℕ → ℕ → ℕ → Type 0
 EndsUnused b table x =
     ((identities_of b table ≡ []) × (looks b table x ≡ 0))
-    ⊎ ((1 ≤ looks b table x) × (get_or (slots_of_table b table).rows (slot_after x (length (slots_of_table b table).rows) (looks b table x - 1)) 0 ≡ 0))
+    ⊎ ((1 ≤ looks b table x) × (slice_index (slots_of_table b table).rows (slot_after x (length (slots_of_table b table).rows) (looks b table x - 1)) ≡ 0))
 
 abbrev pub AbsentEnds : List ℕ → Type 0
 AbsentEnds b = (table x : ℕ) → (table ≡ compilation_table) ⊎ (table ≡ type_table) → any (is_under table x) (handed_in b) ≡ false → EndsUnused b table x
@@ -178,12 +180,12 @@ UnitsCounted b p = (table : ℕ) → (table ≡ compilation_table) ⊎ (table �
 abbrev pub EveryStringReached : List ℕ → List ℕ → Type 0
 EveryStringReached b p =
     (v table x k start size n : ℕ) → Asked b v table → string_found p v table x k ≡ part start size n
-    → (i : ℕ) × (i < length (pieces (str_in p))) × (get_or (pieces (str_in p)) i [] ≡ ended (bytes_at p start size))
+    → (i : ℕ) × (i < length (pieces (str_in p))) × (slice_index_or (pieces (str_in p)) i [] ≡ ended (bytes_at p start size))
 
 -- "exactly once"
 abbrev pub EachStringOnce : List ℕ → Type 0
 EachStringOnce p =
-    (i j : ℕ) → i < length (pieces (str_in p)) → j < length (pieces (str_in p)) → get_or (pieces (str_in p)) i [] ≡ get_or (pieces (str_in p)) j [] → i ≡ j
+    (i j : ℕ) → i < length (pieces (str_in p)) → j < length (pieces (str_in p)) → slice_index_or (pieces (str_in p)) i [] ≡ slice_index_or (pieces (str_in p)) j [] → i ≡ j
 
 -- "in order of first use, and no other string": the first uses of what the entries of str_offsets name, all objects' entries in the order of the bundle
 abbrev pub FirstUsesAndNoOther : List ℕ → List ℕ → Type 0
@@ -239,7 +241,7 @@ pub record AnswersAsHandedIn (b p : List ℕ) : Type 0 where
 
 -- the bundle is bytes, as every slice of them is
 abbrev pub AreBytes : List ℕ → Type 0
-AreBytes b = (i : ℕ) → get_or b i 0 < 256
+AreBytes b = (i : ℕ) → slice_index b i < 256
 
 -- the theorem
 abbrev pub FromBundleToAnswer : Type 0

@@ -1,7 +1,7 @@
 -- The width of a form: each width has its forms, by the names that DWARF 4 gives them, and the two of split DWARF before version 5.
 -- The table has every form that has a width, rising.
 -- Assumes nothing.
-use Rattle.std.specs.Prelude.{true, false, List, [], ◌∷◌, ℕ, zero, suc}
+use Rattle.std.specs.Prelude.{true, false, List, [], ◌∷◌, ℕ, zero, suc, if◌then◌else◌}
 use Rattle.std.proofs.Math.Option.{Option, some, none}
 use Rattle.octets.specs.Lists.{has}
 use Rattle.unit.specs.Forms.{Width, fixed, address, offset, uleb, sleb, string, indirect, block, uleb_block, Form}
@@ -50,7 +50,7 @@ classes =
 
 unfoldable pub width_among : List Class → ℕ → Option Width
 width_among [] f = none
-width_among (c ∷ cs) f = elim (has c.forms f) [ true ↦ some c.width | false ↦ width_among cs f ]
+width_among (c ∷ cs) f = if has c.forms f then some c.width else width_among cs f
 
 unfoldable pub width_by_rule : ℕ → Option Width
 width_by_rule f = width_among classes f

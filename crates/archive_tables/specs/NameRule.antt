@@ -1,6 +1,6 @@
 -- A section's name: `.debug_`, the word of its code, and `.dwo` up to code 11. The words are spelled here, in ASCII, and not taken from the source's table.
 -- Assumes nothing.
-use Rattle.std.specs.Prelude.{true, false, List, [], ◌∷◌, ◌++◌, ℕ, ◌-◌, leb, get_or}
+use Rattle.std.specs.Prelude.{true, false, List, [], ◌∷◌, ◌++◌, ℕ, ◌-◌, nat_le, slice_index_or, if◌then◌else◌}
 use Rattle.numbers.specs.Sections.{str_code}
 
 -- from code 1 on: info, types, abbrev, line, loc, str_offsets, macinfo, macro, loclists, rnglists, str, cu_index, tu_index
@@ -30,10 +30,10 @@ name_end = 0x2E ∷ 0x64 ∷ 0x77 ∷ 0x6F ∷ []
 
 -- codes start at 1
 unfoldable pub word_of : ℕ → List ℕ
-word_of code = get_or words (code - 1) []
+word_of code = slice_index_or words (code - 1) []
 
 unfoldable pub suffix_of : ℕ → List ℕ
-suffix_of code = elim (leb code str_code) [ true ↦ name_end | false ↦ [] ]
+suffix_of code = if nat_le code str_code then name_end else []
 
 unfoldable pub name_by_rule : ℕ → List ℕ
 name_by_rule code = name_front ++ (word_of code ++ suffix_of code)

@@ -1,6 +1,6 @@
 -- Many questions for one package, as words, and their answers, as words.
 -- Assumes nothing.
-use Rattle.std.specs.Prelude.{List, [], ◌∷◌, ◌++◌, ℕ, ◌+◌, ◌*◌, ◌/◌, ◌%◌, eqb, leb, length}
+use Rattle.std.specs.Prelude.{List, [], ◌∷◌, ◌++◌, ℕ, ◌+◌, ◌*◌, ◌/◌, ◌%◌, length, ◌==◌, nat_le}
 use Rattle.numbers.specs.Limits.{questions_limit}
 use Rattle.numbers.specs.Refusals.{bad_questions}
 use Rattle.octets.specs.Checked.{Check, pass, refuse, ◌>>=◌, require}
@@ -29,7 +29,7 @@ questions_of [] = pass []
 questions_of (first ∷ []) = refuse bad_questions
 questions_of (first ∷ low ∷ []) = refuse bad_questions
 questions_of (first ∷ low ∷ high ∷ rest) = do
-  _ ← require (eqb (first / 256) question_kind) bad_questions
+  _ ← require (first / 256 == question_kind) bad_questions
   questions ← questions_of rest
   pass (question first low high ∷ questions)
 
@@ -54,8 +54,8 @@ answers_to p version (q ∷ qs) = answer_to p version q ++ answers_to p version 
 unfoldable pub batch_judged : List ℕ → ℕ → List ℕ → ℕ → Check (List ℕ)
 batch_judged p version words room = do
   questions ← questions_of words
-  _ ← require (leb (length questions) questions_limit) bad_questions
-  _ ← require (leb (4 * length questions) room) bad_questions
+  _ ← require (nat_le (length questions) questions_limit) bad_questions
+  _ ← require (nat_le (4 * length questions) room) bad_questions
   pass (answers_to p version questions)
 
 -- of a package, the index version for all questions, the words of the questions, and how many words there are for the answers

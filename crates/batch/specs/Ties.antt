@@ -1,6 +1,6 @@
 -- What ties the code to the definitions. Nothing here need be believed.
 -- Assumes nothing.
-use Rattle.std.specs.Prelude.{◌≡◌, Bool, true, false, ◌&&◌, List, [], ℕ, ◌*◌, ◌^◌, ◌≤◌, ◌<◌, leb, length, Result, IfOk}
+use Rattle.std.specs.Prelude.{◌≡◌, Bool, true, false, ◌&&◌, List, [], ℕ, ◌*◌, ◌^◌, ◌≤◌, ◌<◌, length, Result, IfOk, nat_le}
 use Rattle.numbers.specs.Limits.{questions_limit}
 use Rattle.numbers.specs.Refused.{told}
 use Rattle.numbers.specs.declared.refusals.Refusal.{Refusal}
@@ -29,7 +29,7 @@ questions_in words = or_none (questions_of words)
 
 -- what 38 tests
 unfoldable pub is_taken : List ℕ → ℕ → Bool
-is_taken words room = are_questions words && leb (length (questions_in words)) questions_limit && leb (4 * length (questions_in words)) room
+is_taken words room = are_questions words && nat_le (length (questions_in words)) questions_limit && nat_le (4 * length (questions_in words)) room
 
 -- they have passed, and there is room for their answers
 pub record Ready (words : List ℕ) (room : ℕ) : Type 0 where

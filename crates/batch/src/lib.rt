@@ -1,7 +1,7 @@
 // Many questions for one package, which is opened once for all of them.
 #![tactic(auto)]
 
-ghost use Rattle.std.specs.Prelude.{◌≡◌, length, get_or};
+ghost use Rattle.std.specs.Prelude.{◌≡◌, length, slice_index};
 ghost use Rattle.std.proofs.Props.{props};
 ghost use Rattle.octets.specs.Octets.{placed};
 ghost use Rattle.answers.specs.Answers.{output_of, written_of};
@@ -72,7 +72,7 @@ impl AskedPackage<'_> {
     #[tactic(auto, using(crate::proofs::Answering::opened_bytes, crate::proofs::Answering::opened_refused, lookup::proofs::Lookups::looked_closed), unfolding(crate::specs::Batch::asked, crate::specs::Batch::question))]
     fn ask(&self, words: &[u32]) -> Answer
         requires { length words.now ≡ 3 }
-        ensures { result ≡ numbered (asked self.now.bytes.now self.now.version (question (get_or words.now 0 0) (get_or words.now 1 0) (get_or words.now 2 0))) }
+        ensures { result ≡ numbered (asked self.now.bytes.now self.now.version (question (slice_index words.now 0) (slice_index words.now 1) (slice_index words.now 2))) }
     {
         let unit = UnitAsked {
             version: self.version,

@@ -19,6 +19,7 @@ use Rattle.bundle.specs.Written.{Section, Sections, word_bytes, head_bytes, sect
 use Rattle.bundle.proofs.Every.{Every}
 use Rattle.bundle.proofs.Putting.{length_word, length_head, length_section}
 use Rattle.bundle.proofs.RoundTrip.{Storables, parts_from, objects_from, written_bundle}
+use Rattle.std.specs.Prelude.{if◌then◌else◌}
 
 -- what parts of the bundle b hold
 unfoldable pub section_in : List ℕ → Part → Section
@@ -84,7 +85,7 @@ module _ (big : Bool) (os : List Sections) where
 -- the bytes of the first section of a code
 unfoldable pub bytes_at : List Section → ℕ → List ℕ
 bytes_at [] c = []
-bytes_at (x ∷ xs) c = elim (eqb x.code c) [ true ↦ x.bytes | false ↦ bytes_at xs c ]
+bytes_at (x ∷ xs) c = if eqb x.code c then x.bytes else bytes_at xs c
 
 those_map : (f : Section → Bool) (g : Part → Section) (ps : List Part) → length (those (λ p. f (g p)) ps) ≡ length (those f (map g ps))
 unfolding those

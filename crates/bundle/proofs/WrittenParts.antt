@@ -20,6 +20,7 @@ use Rattle.bundle.specs.Bundle.{Part, filled_up, first_part, parts_of, count}
 use Rattle.bundle.specs.Written.{Section, word_bytes, section_bytes}
 use Rattle.bundle.proofs.Putting.{length_word, length_section}
 use Rattle.bundle.proofs.RoundTrip.{parts_from}
+use Rattle.std.specs.Prelude.{if◌then◌else◌}
 
 -- ---- sections by code
 unfoldable pub is_of : ℕ → Section → Bool
@@ -36,7 +37,7 @@ code_not s c e = eqb-false s.code c e
 -- the bytes of the first one of a code, none where there is none
 unfoldable pub bytes_in : List Section → ℕ → List ℕ
 bytes_in [] c = []
-bytes_in (s ∷ ss) c = elim (is_of c s) [ true ↦ s.bytes | false ↦ bytes_in ss c ]
+bytes_in (s ∷ ss) c = if is_of c s then s.bytes else bytes_in ss c
 
 pub bytes_here : (s : Section) (ss : List Section) (c : ℕ) → is_of c s ≡ true → bytes_in (s ∷ ss) c ≡ s.bytes
 unfolding bytes_in

@@ -1,7 +1,7 @@
 -- A bundle is little-endian 32-bit words, whose bits 28 to 31 are the word's kind: head, object, section with its bytes, end.
 -- Whatever is not so breaks the word format (3).
 -- Assumes nothing.
-use Rattle.std.specs.Prelude.{Bool, true, false, ◌&&◌, ◌||◌, List, [], ◌∷◌, ℕ, zero, suc, ◌+◌, ◌*◌, ◌-◌, ◌/◌, ◌%◌, eqb, leb, ltb, length, drop}
+use Rattle.std.specs.Prelude.{Bool, true, false, ◌&&◌, ◌||◌, List, [], ◌∷◌, ℕ, zero, suc, ◌+◌, ◌*◌, ◌-◌, ◌/◌, ◌%◌, length, drop, ◌==◌, nat_eq, nat_le, nat_lt, if◌then◌else◌}
 use Rattle.std.proofs.Math.Option.{Option, some, none}
 use Rattle.numbers.specs.Sections.{info_code, tu_index_code}
 use Rattle.numbers.specs.Refusals.{bad_words}
@@ -32,37 +32,33 @@ filled_up n = (n + 3) / 4 * 4
 
 -- kind 1: the rest is the encoding; bits 24 to 27 are zero
 unfoldable pub object_step : ℕ → Step
-object_step rest = elim (ltb rest 0x100_0000) [ true ↦ more (object (0x1000_0000 + rest)) 0 | false ↦ broken ]
+object_step rest = if nat_lt rest 0x100_0000 then more (object (0x1000_0000 + rest)) 0 else broken
 
 -- kind 2: code and length; the bytes follow, filled up to a whole word with zeros
 unfoldable pub section_step : ℕ → List ℕ → ℕ → ℕ → Step
 section_step at s code size =
-    elim (leb info_code code && leb code tu_index_code && leb (4 + filled_up size) (length s) && all (eqb 0) (part s (4 + size) (filled_up size - size))) [
-      | true ↦ more (section (record { code = code; start = at + 4; size = size })) (filled_up size)
-      | false ↦ broken
-    ]
+    if nat_le info_code code && nat_le code tu_index_code && nat_le (4 + filled_up size) (length s) && all (nat_eq 0) (part s (4 + size) (filled_up size - size))
+    then more (section (record { code = code; start = at + 4; size = size })) (filled_up size)
+    else broken
 
 -- kind 3: the last word, and the rest is the bundle's number of words
 unfoldable pub end_step : ℕ → List ℕ → ℕ → Step
-end_step at s rest = elim (eqb (length s) 4 && eqb (4 * rest) (at + 4)) [ true ↦ end | false ↦ broken ]
+end_step at s rest = if length s == 4 && 4 * rest == at + 4 then end else broken
 
 unfoldable pub step_of : ℕ → List ℕ → ℕ → ℕ → Step
 step_of at s kind rest =
-    elim (eqb kind 1) [
-      | true ↦ object_step rest
-      | false ↦ elim (eqb kind 2) [
-        | true ↦ section_step at s (rest / 0x80_0000) (rest % 0x80_0000)
-        | false ↦ elim (eqb kind 3) [ true ↦ end_step at s rest | false ↦ broken ]
-      ]
-    ]
+    if kind == 1
+    then object_step rest
+    else if kind == 2
+        then section_step at s (rest / 0x80_0000) (rest % 0x80_0000)
+        else if kind == 3 then end_step at s rest else broken
 
 -- s is the bundle from a place on
 unfoldable pub step_at : ℕ → List ℕ → Step
 step_at at s =
-    elim (ltb (length s) 4) [
-      | true ↦ broken
-      | false ↦ step_of at s (number_at false 4 s 0 / 0x1000_0000) (number_at false 4 s 0 % 0x1000_0000)
-    ]
+    if nat_lt (length s) 4
+    then broken
+    else step_of at s (number_at false 4 s 0 / 0x1000_0000) (number_at false 4 s 0 % 0x1000_0000)
 
 unfoldable pub followed : Step → (ℕ → Check (List Item)) → Check (List Item)
 followed (more i n) rest = do
@@ -109,19 +105,19 @@ pub record Bundle : Type 0 where
 unfoldable pub bundle_of : List ℕ → Check Bundle
 bundle_of b = do
   let head = number_at false 4 b 0
-  _ ← require (eqb head 0xF000_0000 || eqb head 0xF000_0001) bad_words
+  _ ← require (head == 0xF000_0000 || head == 0xF000_0001) bad_words
   is ← items 4 (drop 4 b)
   _ ← require (object_first is) bad_words
-  pass (record { big = eqb head 0xF000_0001; objects = objects_of is })
+  pass (record { big = head == 0xF000_0001; objects = objects_of is })
 
 -- 1 and 21: the length is 8 or more, within the limit and a multiple of 4
 unfoldable pub length_good : ℕ → List ℕ → Bool
-length_good limit b = leb 8 (length b) && leb (length b) limit && eqb (length b % 4) 0
+length_good limit b = nat_le 8 (length b) && nat_le (length b) limit && length b % 4 == 0
 
 -- ---- the sections of one object
 -- those of a code
 unfoldable pub parts_of : List Part → ℕ → List Part
-parts_of ps c = those (λ p. eqb p.code c) ps
+parts_of ps c = those (λ p. p.code == c) ps
 
 unfoldable pub count : List Part → ℕ → ℕ
 count ps c = length (parts_of ps c)
@@ -129,7 +125,7 @@ count ps c = length (parts_of ps c)
 -- the first one of a code
 unfoldable pub first_part : List Part → ℕ → Option Part
 first_part [] c = none
-first_part (p ∷ ps) c = elim (eqb p.code c) [ true ↦ some p | false ↦ first_part ps c ]
+first_part (p ∷ ps) c = if p.code == c then some p else first_part ps c
 
 -- its bytes in the bundle b, none where there is none
 unfoldable pub body : List ℕ → List Part → ℕ → List ℕ

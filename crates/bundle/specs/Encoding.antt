@@ -1,6 +1,6 @@
 -- What an object word states, and 4: the version is 4 or 5, the offset width and the address size are 4 or 8 bytes.
 -- Assumes nothing.
-use Rattle.std.specs.Prelude.{Bool, ◌&&◌, ◌||◌, ℕ, ◌/◌, ◌%◌, eqb}
+use Rattle.std.specs.Prelude.{Bool, ◌&&◌, ◌||◌, ℕ, ◌/◌, ◌%◌, ◌==◌}
 use Rattle.numbers.specs.Tables.{dwarf4, dwarf5}
 
 -- the byte order (true is big-endian), the DWARF version, the offset width and the address size in bytes
@@ -14,4 +14,4 @@ unfoldable pub encoding_of : Bool → ℕ → Encoding
 encoding_of big word = record { big = big; version = word % 256; width = word / 256 % 256; address = word / 0x1_0000 % 256 }
 
 unfoldable pub encoding_good : Encoding → Bool
-encoding_good e = (eqb e.version dwarf4 || eqb e.version dwarf5) && (eqb e.width 4 || eqb e.width 8) && (eqb e.address 4 || eqb e.address 8)
+encoding_good e = (e.version == dwarf4 || e.version == dwarf5) && (e.width == 4 || e.width == 8) && (e.address == 4 || e.address == 8)

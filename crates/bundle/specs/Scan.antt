@@ -1,6 +1,6 @@
 -- The sections of one object, listed by code: how many there are, and where the first lies. And how many bytes the str_offsets sections of a bundle have.
 -- Assumes nothing.
-use Rattle.std.specs.Prelude.{◌≡◌, Bool, true, false, ◌||◌, List, [], ◌∷◌, ℕ, zero, suc, ◌+◌, ◌<◌, eqb, drop, get_or, set}
+use Rattle.std.specs.Prelude.{◌≡◌, Bool, true, false, ◌||◌, List, [], ◌∷◌, ℕ, zero, suc, ◌+◌, ◌<◌, drop, set, ◌==◌, slice_index, if◌then◌else◌}
 use Rattle.std.proofs.Math.Option.{Option, some, none}
 use Rattle.numbers.specs.Sections.{info_code, types_code, str_offsets_code, section_codes}
 use Rattle.octets.specs.Lists.{those}
@@ -51,10 +51,9 @@ scan_of at ps = record { count = by_code (count ps); start = by_code (start_of p
 -- with one section more
 unfoldable pub noted : Scan → Section → Scan
 noted s x =
-    elim (eqb (get_or s.count x.code 0) 0) [
-      | true ↦ record { count = set s.count x.code (get_or s.count x.code 0 + 1); start = set s.start x.code x.start; size = set s.size x.code x.size; next = x.next }
-      | false ↦ record { count = set s.count x.code (get_or s.count x.code 0 + 1); start = s.start; size = s.size; next = x.next }
-    ]
+    if slice_index s.count x.code == 0
+    then record { count = set s.count x.code (slice_index s.count x.code + 1); start = set s.start x.code x.start; size = set s.size x.code x.size; next = x.next }
+    else record { count = set s.count x.code (slice_index s.count x.code + 1); start = s.start; size = s.size; next = x.next }
 
 -- the items from a place of a bundle on reach its end: what `bundle_of` has found
 pub record Reaches (b : List ℕ) (at : ℕ) : Type 0 where
@@ -64,11 +63,11 @@ pub record Reaches (b : List ℕ) (at : ℕ) : Type 0 where
 -- a section of the code can be counted
 pub record Notable (s : Scan) (code : ℕ) : Type 0 where
   pub good : code < section_codes
-  pub small : get_or s.count code 0 < 0xFFFF_FFFF_FFFF_FFFF
+  pub small : slice_index s.count code < 0xFFFF_FFFF_FFFF_FFFF
 
 -- info and types hold units
 unfoldable pub holds_units : Part → Bool
-holds_units p = eqb p.code info_code || eqb p.code types_code
+holds_units p = p.code == info_code || p.code == types_code
 
 unfoldable pub unit_parts : List Part → List Part
 unit_parts ps = those holds_units ps
@@ -77,12 +76,14 @@ unit_parts ps = those holds_units ps
 unfoldable pub unit_section_of : List Part → Option Section
 unit_section_of [] = none
 unit_section_of (p ∷ ps) =
-    elim (holds_units p) [ true ↦ some (section_at p (p.start + filled_up p.size)) | false ↦ unit_section_of ps ]
+    if holds_units p
+    then some (section_at p (p.start + filled_up p.size))
+    else unit_section_of ps
 
 -- ---- the str_offsets sections of all objects
 -- how many of its bytes a section counts for: all where it is str_offsets
 unfoldable pub offsets_at : ℕ → ℕ → ℕ
-offsets_at code size = elim (eqb code str_offsets_code) [ true ↦ size | false ↦ 0 ]
+offsets_at code size = if code == str_offsets_code then size else 0
 
 -- how many bytes they have together
 unfoldable pub offsets_in : List Item → ℕ

@@ -33,6 +33,7 @@ use Rattle.numbers.specs.Refusals.{bad_header, no_unit}
 use Rattle.elf.specs.File.{Header, body_of, no_header, code_of, is_wanted}
 use Rattle.elf.specs.Reader.{first_info, width_stated, version_stated, encoding_stated, unit_stated, object_word}
 use Rattle.elf.specs.Held.{section_of, sections_in, word_with}
+use Rattle.std.specs.Prelude.{if◌then◌else◌}
 
 -- ---- a unit that doesn't end in its section
 only_unit_inside : (e : Encoding) (s : List ℕ) → Only 11 (unit_inside e s)
@@ -148,7 +149,7 @@ module _ (big : Bool) (s : List ℕ) (wide : Bool) (w : wide ≡ marked big s) w
 
   pub field_is : length_field (code_form big false wide) ≡ length_field (version_stated big s)
   unfolding length_field version_stated encoding_is
-  field_is = ap (λ (k : ℕ). elim (eqb k 4) [ true ↦ 4 | false ↦ 12 ]) width_is
+  field_is = ap (λ (k : ℕ). if eqb k 4 then 4 else 12) width_is
 
   pub version_is : number_at big 2 s (length_field (code_form big false wide)) ≡ (encoding_stated big s).version
   unfolding encoding_stated version_stated length_field

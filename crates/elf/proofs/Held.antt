@@ -29,6 +29,7 @@ use Rattle.elf.specs.Reader.{readable, first_info, width_stated, version_stated,
 use Rattle.elf.specs.Elf32.{elf32_of, bundle32_read}
 use Rattle.elf.specs.Holds.{sections_of, HoldsFile, Holds, Holds32}
 use Rattle.elf.proofs.Names.{code_most}
+use Rattle.std.specs.Prelude.{if◌then◌else◌}
 
 -- ---- what is stored can be written
 abbrev short : Section → Bool
@@ -64,7 +65,7 @@ body_bytes : (f : List ℕ) (h : Header) → Bytes f → Bytes (body_of f h)
 unfolding body_of
 body_bytes f h b = go (unstored h)
   where
-    go : (t : Bool) → Bytes (elim t [ true ↦ [] | false ↦ part f h.offset h.size ])
+    go : (t : Bool) → Bytes (if t then [] else part f h.offset h.size)
     go true = bytes_none
     go false = bytes_part f h.offset h.size b
 
@@ -73,7 +74,7 @@ unfolding first_info
 info_bytes f names [] b = bytes_none
 info_bytes f names (h ∷ hs) b = go (eqb (code_of names h) info_code && not (eqb (length (body_of f h)) 0)) (info_bytes f names hs b)
   where
-    go : (t : Bool) → Bytes (first_info f names hs) → Bytes (elim t [ true ↦ body_of f h | false ↦ first_info f names hs ])
+    go : (t : Bool) → Bytes (first_info f names hs) → Bytes (if t then body_of f h else first_info f names hs)
     go true more = body_bytes f h b
     go false more = more
 
@@ -81,7 +82,7 @@ width_most : (big : Bool) (s : List ℕ) → width_stated big s ≤ 8
 unfolding width_stated
 width_most big s = go (marked big s)
   where
-    go : (t : Bool) → elim t [ true ↦ 8 | false ↦ 4 ] ≤ 8
+    go : (t : Bool) → (if t then 8 else 4) ≤ 8
     go true = omega arith
     go false = omega arith
 

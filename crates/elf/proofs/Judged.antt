@@ -104,8 +104,8 @@ all_range p d t k [] h = refl
 all_range p d t k (x ∷ xs) h = go (p x) refl (ap t (omega arith) ∙ h 0 (omega arith)) (all_range p d t (k + 1) xs (λ i l. ap t (omega arith) ∙ h (suc i) (omega arith)))
   where
     go : (b : Bool) → p x ≡ b → t k ≡ p x → list_all t (range_with_len (k + 1) (length xs)) ≡ all p xs → list_all t (range_with_len k (length (x ∷ xs))) ≡ all p (x ∷ xs)
-    go true e q more = rw (q, e) (more ∙ sym (all_cons p x xs e))
-    go false e q more = rw (q, e) (sym (all_stops p x xs e))
+    go true e q more = rw (q, e) more
+    go false e q more = rw (q, e)
 
 -- the numbers of the headers, each tested by its header
 abbrev pub at_number : ElfFile → (Header → Bool) → ℕ → Bool

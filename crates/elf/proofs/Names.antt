@@ -61,9 +61,8 @@ among_found s t k (n ∷ ns) l h = go (starts_with s n) refl (ap t (omega arith)
     go : (b : Bool) → starts_with s n ≡ b → t k ≡ starts_with s n → find t (range_with_len (k + 1) (length ns)) ≡ code_found (code_among ns (k + 1) s)
         → find t (range_with_len k (length (n ∷ ns))) ≡ code_found (code_among (n ∷ ns) k s)
     go true e q more =
-        let is : code_among (n ∷ ns) k s ≡ k = rw (code_among, e) in
         let found : code_found k ≡ Some k = rw (code_found, ne_eqb k 0 (λ z. omega arith)) in
-        rw (q, e) (sym (ap code_found is ∙ found))
+        rw (q, e) (sym found)
     go false e q more = rw (q, e, code_among) more
 
 among_nothing : (ns : List (List ℕ)) (c : ℕ) → code_among ns c [] ≡ 0

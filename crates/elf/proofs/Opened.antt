@@ -24,12 +24,13 @@ use Rattle.elf.proofs.Headers.{in_headers, past_headers}
 use Rattle.elf.proofs.Judged.{told_wanted, wanted_inside}
 use Rattle.elf.proofs.Rooms.{one_unwanted, one_wanted, room_one, room_none, short_one, room_good, room_bad, room_is, room_most, sections_more, room_more, room_within, short_at, sections_all}
 use Rattle.elf.proofs.Putting.{appended_more}
+use Rattle.std.specs.Prelude.{if◌then◌else◌}
 
 -- a code that was found is the code
 found_code : (n code : ℕ) → Some code ≡ code_found n → code ≡ n
 found_code n code e = go (eqb n 0) e
   where
-    go : (t : Bool) → Some code ≡ elim t [ true ↦ None | false ↦ Some n ] → code ≡ n
+    go : (t : Bool) → Some code ≡ (if t then None else Some n) → code ≡ n
     go true q = absurd (let z : ◌≡◌ {A = ℕ} 0 1 = cc in omega arith)
     go false q = cc
 

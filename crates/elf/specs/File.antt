@@ -1,6 +1,6 @@
 -- An ELF64 file, as ticket 2 reads it: its section headers, their names, and the sections that are wanted (31).
 -- Assumes nothing.
-use Rattle.std.specs.Prelude.{Bool, true, false, not, ◌||◌, List, [], ◌∷◌, ◌++◌, ℕ, zero, suc, ◌+◌, ◌*◌, eqb, leb, ltb, length, take, drop, get_or}
+use Rattle.std.specs.Prelude.{Bool, true, false, not, ◌||◌, List, [], ◌∷◌, ◌++◌, ℕ, zero, suc, ◌+◌, ◌*◌, length, take, drop, ◌==◌, nat_eq, nat_le, nat_lt, slice_index, if◌then◌else◌}
 use Rattle.octets.specs.Octets.{part, number_at}
 use Rattle.octets.specs.Lists.{all, any, those, same}
 use Rattle.octets.specs.Checked.{Check, pass, ◌>>=◌, require}
@@ -37,14 +37,14 @@ headers_at big f i at (suc n) = header_at big f i at ∷ headers_at big f (i + 1
 
 -- type 8 has no bytes
 unfoldable pub unstored : Header → Bool
-unstored h = eqb h.type 8
+unstored h = h.type == 8
 
 unfoldable pub body_of : List ℕ → Header → List ℕ
-body_of f h = elim (unstored h) [ true ↦ [] | false ↦ part f h.offset h.size ]
+body_of f h = if unstored h then [] else part f h.offset h.size
 
 -- all its bytes are in the file; where there are none, its place isn't judged
 unfoldable pub inside : List ℕ → Header → Bool
-inside f h = unstored h || eqb h.size 0 || leb (h.offset + h.size) (length f)
+inside f h = unstored h || h.size == 0 || nat_le (h.offset + h.size) (length f)
 
 -- the byte order (true is big-endian), the headers, and the bytes of the name table
 pub record File : Type 0 where
@@ -60,17 +60,17 @@ no_header = record { number = 0; name = 0; type = 0; flags = 0; offset = 0; size
 -- extended numbering: there the count is 0, or the number FFFF hexadecimal
 unfoldable pub file_of : List ℕ → Check File
 file_of f = do
-  _ ← require (leb 64 (length f)) not_elf
+  _ ← require (nat_le 64 (length f)) not_elf
   _ ← require (same (take 5 f) (0x7F ∷ 0x45 ∷ 0x4C ∷ 0x46 ∷ 2 ∷ [])) not_elf
-  _ ← require (eqb (get_or f 5 0) 1 || eqb (get_or f 5 0) 2) not_elf
-  let big = eqb (get_or f 5 0) 2
-  _ ← require (eqb (number_at big 2 f 16) 1) not_elf
+  _ ← require (slice_index f 5 == 1 || slice_index f 5 == 2) not_elf
+  let big = slice_index f 5 == 2
+  _ ← require (number_at big 2 f 16 == 1) not_elf
   let at = number_at big 8 f 40
-  _ ← require (eqb (number_at big 2 f 58) 64) not_elf
+  _ ← require (number_at big 2 f 58 == 64) not_elf
   let n = number_at big 2 f 60
-  _ ← require (leb (at + 64 * n) (length f)) not_elf
+  _ ← require (nat_le (at + 64 * n) (length f)) not_elf
   let table = number_at big 2 f 62
-  _ ← require (ltb table n) not_elf
+  _ ← require (nat_lt table n) not_elf
   let t = header_at big f table (at + 64 * table)
   _ ← require (inside f t) not_elf
   pass (record { big = big; headers = headers_at big f 0 at n; names = body_of f t })
@@ -83,18 +83,18 @@ starts_with s name = same (take (length name + 1) s) (name ++ (0 ∷ []))
 -- the code of the first of these names, which have the codes from c on, that s starts with; 0 for none
 unfoldable pub code_among : List (List ℕ) → ℕ → List ℕ → ℕ
 code_among [] c s = 0
-code_among (n ∷ ns) c s = elim (starts_with s n) [ true ↦ c | false ↦ code_among ns (c + 1) s ]
+code_among (n ∷ ns) c s = if starts_with s n then c else code_among ns (c + 1) s
 
 -- a header's section code by its name; 0 for one that isn't wanted
 unfoldable pub code_of : List ℕ → Header → ℕ
 code_of names h = code_among (drop 1 section_names) 1 (drop h.name names)
 
 unfoldable pub is_wanted : List ℕ → Header → Bool
-is_wanted names h = not (eqb (code_of names h) 0)
+is_wanted names h = not (code_of names h == 0)
 
 -- its name ends in the name table
 unfoldable pub ended : List ℕ → Header → Bool
-ended names h = any (eqb 0) (drop h.name names)
+ended names h = any (nat_eq 0) (drop h.name names)
 
 unfoldable pub wanted_of : File → List Header
 wanted_of e = those (is_wanted e.names) e.headers

@@ -1,6 +1,6 @@
 -- What the code's values are by the definitions, and what holds of them. Nothing here need be believed.
 -- Assumes nothing.
-use Rattle.std.specs.Prelude.{◌≡◌, ◌≢◌, Option, Some, None, Bool, true, false, not, ◌&&◌, ◌||◌, List, [], ◌∷◌, ◌++◌, map, ℕ, ◌+◌, ◌*◌, ◌-◌, ◌<◌, ◌≤◌, eqb, leb, ltb, length, get_or, slice_index, EachIndex, MatchOption}
+use Rattle.std.specs.Prelude.{◌≡◌, ◌≢◌, Option, Some, None, Bool, true, false, not, ◌&&◌, ◌||◌, List, [], ◌∷◌, ◌++◌, map, ℕ, ◌+◌, ◌*◌, ◌-◌, ◌<◌, ◌≤◌, length, slice_index, EachIndex, MatchOption, ◌==◌, nat_le, nat_lt, slice_index_or, if◌then◌else◌}
 use Rattle.octets.specs.Octets.{number_at, zeros, padded}
 use Rattle.octets.specs.Lists.{all, joined, sum, those}
 use Rattle.octets.specs.Checked.{Check, pass, refuse, ◌>>=◌, require}
@@ -39,13 +39,13 @@ with_names f big at n t = do
 -- `file_of` from the type on
 unfoldable pub from_type : List ℕ → Bool → Check File
 from_type f big = do
-  _ ← require (eqb (number_at big 2 f 16) 1) not_elf
+  _ ← require (number_at big 2 f 16 == 1) not_elf
   let at = number_at big 8 f 40
-  _ ← require (eqb (number_at big 2 f 58) 64) not_elf
+  _ ← require (number_at big 2 f 58 == 64) not_elf
   let n = number_at big 2 f 60
-  _ ← require (leb (at + 64 * n) (length f)) not_elf
+  _ ← require (nat_le (at + 64 * n) (length f)) not_elf
   let table = number_at big 2 f 62
-  _ ← require (ltb table n) not_elf
+  _ ← require (nat_lt table n) not_elf
   with_names f big at n (header_at big f table (at + 64 * table))
 
 -- `file32_of` from the name table's header on
@@ -57,13 +57,13 @@ with_names32 f big at n t = do
 -- `file32_of` from the type on
 unfoldable pub from_type32 : List ℕ → Bool → Check File
 from_type32 f big = do
-  _ ← require (eqb (number_at big 2 f 16) 1) not_elf
+  _ ← require (number_at big 2 f 16 == 1) not_elf
   let at = number_at big 4 f 32
-  _ ← require (eqb (number_at big 2 f 46) 40) not_elf
+  _ ← require (number_at big 2 f 46 == 40) not_elf
   let n = number_at big 2 f 48
-  _ ← require (leb (at + 40 * n) (length f)) not_elf
+  _ ← require (nat_le (at + 40 * n) (length f)) not_elf
   let table = number_at big 2 f 50
-  _ ← require (ltb table n) not_elf
+  _ ← require (nat_lt table n) not_elf
   with_names32 f big at n (header32_at big f table (at + 40 * table))
 
 -- ---- one header judged
@@ -71,10 +71,10 @@ abbrev pub header_good : List ℕ → List ℕ → Header → Bool
 header_good f names h = ended names h && (not (is_wanted names h) || inside f h)
 
 abbrev pub is_relocation : Header → Bool
-is_relocation h = eqb h.type 4 || eqb h.type 9
+is_relocation h = h.type == 4 || h.type == 9
 
 abbrev pub target_wanted : File → ℕ → Bool
-target_wanted e i = ltb i (length e.headers) && is_wanted e.names (get_or e.headers i no_header)
+target_wanted e i = nat_lt i (length e.headers) && is_wanted e.names (slice_index_or e.headers i no_header)
 
 abbrev pub relocates_wanted : File → Header → Bool
 relocates_wanted e h = is_relocation h && target_wanted e h.info
@@ -96,25 +96,25 @@ unfoldable pub sections_in : List ℕ → List ℕ → List Header → List Sect
 sections_in f names hs = map (section_of f names) (those (is_wanted names) hs)
 
 unfoldable pub short_enough : Section → Bool
-short_enough s = leb (length s.bytes) section_limit
+short_enough s = nat_le (length s.bytes) section_limit
 
 -- what sections take with their words
 unfoldable pub room_sum : List Section → ℕ
 room_sum ss = sum (map (λ s. 4 + filled_up (length s.bytes)) ss)
 
 unfoldable pub room_of : List Section → Check ℕ
-room_of ss = elim (all short_enough ss) [ true ↦ pass (room_sum ss) | false ↦ refuse section_too_long ]
+room_of ss = if all short_enough ss then pass (room_sum ss) else refuse section_too_long
 
 -- of a file that was opened: the section of header i, if it is wanted, and all of them
 unfoldable pub header_sections : ElfFile → ℕ → List Section
-header_sections e i = sections_in e.bytes.now e.names.now (get_or (file_is e).headers i no_header ∷ [])
+header_sections e i = sections_in e.bytes.now e.names.now (slice_index_or (file_is e).headers i no_header ∷ [])
 
 unfoldable pub all_sections : ElfFile → List Section
 all_sections e = sections_in e.bytes.now e.names.now (file_is e).headers
 
 -- 0 is no code
 abbrev pub code_found : ℕ → Option ℕ
-code_found n = elim (eqb n 0) [ true ↦ None | false ↦ Some n ]
+code_found n = if n == 0 then None else Some n
 
 -- what the code found of a header's section
 abbrev pub sections_found : Option found.Section → List Section

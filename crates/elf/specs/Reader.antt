@@ -1,6 +1,6 @@
 -- Ticket 2: an ELF64 file read into a bundle of one object. 31, 32, 33, 19 and 18, in this order.
 -- Assumes nothing.
-use Rattle.std.specs.Prelude.{Bool, true, false, not, ◌&&◌, ◌||◌, List, [], ◌∷◌, map, ℕ, ◌+◌, ◌*◌, ◌/◌, ◌%◌, eqb, leb, length, get_or}
+use Rattle.std.specs.Prelude.{Bool, true, false, not, ◌&&◌, ◌||◌, List, [], ◌∷◌, map, ℕ, ◌+◌, ◌*◌, ◌/◌, ◌%◌, length, ◌==◌, nat_le, slice_index, if◌then◌else◌}
 use Rattle.octets.specs.Octets.{number_at}
 use Rattle.octets.specs.Lists.{all, any}
 use Rattle.octets.specs.Checked.{Check, pass, ◌>>=◌, require}
@@ -17,11 +17,11 @@ use Rattle.elf.specs.File.{Header, unstored, body_of, File, code_of, wanted_of, 
 
 -- ---- 32: a wanted section is stored as it is, and nothing is added to it when the file is linked
 unfoldable pub compressed : Header → Bool
-compressed h = eqb (h.flags / 0x800 % 2) 1
+compressed h = h.flags / 0x800 % 2 == 1
 
 -- a relocation section, of type 4 or 9, names its target by number
 unfoldable pub relocates : Header → Header → Bool
-relocates h r = (eqb r.type 4 || eqb r.type 9) && eqb r.info h.number
+relocates h r = (r.type == 4 || r.type == 9) && r.info == h.number
 
 unfoldable pub readable : List Header → Header → Bool
 readable hs h = not (compressed h) && not (unstored h) && not (any (relocates h) hs)
@@ -31,11 +31,13 @@ readable hs h = not (compressed h) && not (unstored h) && not (any (relocates h)
 unfoldable pub first_info : List ℕ → List ℕ → List Header → List ℕ
 first_info f names [] = []
 first_info f names (h ∷ hs) =
-    elim (eqb (code_of names h) info_code && not (eqb (length (body_of f h)) 0)) [ true ↦ body_of f h | false ↦ first_info f names hs ]
+    if code_of names h == info_code && not (length (body_of f h) == 0)
+    then body_of f h
+    else first_info f names hs
 
 -- the encoding that the header at the front of s states: FFFFFFFF starts width 8
 unfoldable pub width_stated : Bool → List ℕ → ℕ
-width_stated big s = elim (marked big s) [ true ↦ 8 | false ↦ 4 ]
+width_stated big s = if marked big s then 8 else 4
 
 -- version and width; the address size, whose place depends on both, is 0 here
 unfoldable pub version_stated : Bool → List ℕ → Encoding
@@ -47,13 +49,13 @@ version_stated big s =
 unfoldable pub encoding_stated : Bool → List ℕ → Encoding
 encoding_stated big s =
     let e = version_stated big s in
-    record { big = big; version = e.version; width = e.width; address = get_or s (address_place e) 0 }
+    record { big = big; version = e.version; width = e.width; address = slice_index s (address_place e) }
 
 -- its header passes 11; whether its identity can be read is left to packing
 unfoldable pub unit_stated : Bool → List ℕ → Check Encoding
 unit_stated big s = do
   let e = encoding_stated big s
-  _ ← require (eqb e.version dwarf4 || eqb e.version dwarf5) no_unit
+  _ ← require (e.version == dwarf4 || e.version == dwarf5) no_unit
   _ ← require (header_passes e info_code s) no_unit
   pass e
 
@@ -69,9 +71,9 @@ sections_read f e = map (λ h. record { code = code_of e.names h; bytes = body_o
 unfoldable pub bundle_of_word : List ℕ → File → ℕ → Check (List ℕ)
 bundle_of_word f e word = do
   let ss = sections_read f e
-  _ ← require (all (λ s. leb (length s.bytes) section_limit) ss) section_too_long
+  _ ← require (all (λ s. nat_le (length s.bytes) section_limit) ss) section_too_long
   let b = written e.big (record { word = word; sections = ss } ∷ [])
-  _ ← require (leb (length b) package_limit) section_too_long
+  _ ← require (nat_le (length b) package_limit) section_too_long
   pass b
 
 -- from 32 on, of a file of either class that 31 lets pass

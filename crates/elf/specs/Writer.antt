@@ -1,7 +1,7 @@
 -- Ticket 9: a package written as an ELF64 relocatable file: ELF header, section bytes, name table, zeros up to a multiple of 8, section headers. 36, 21 and 37,
 -- in this order.
 -- Assumes nothing.
-use Rattle.std.specs.Prelude.{Bool, true, false, ◌&&◌, ◌||◌, List, [], ◌∷◌, ◌++◌, map, ℕ, ◌+◌, ◌*◌, ◌-◌, ◌/◌, eqb, leb, nat_le, length}
+use Rattle.std.specs.Prelude.{Bool, true, false, ◌&&◌, ◌||◌, List, [], ◌∷◌, ◌++◌, map, ℕ, ◌+◌, ◌*◌, ◌-◌, ◌/◌, nat_le, length, ◌==◌, if◌then◌else◌}
 use Rattle.numbers.specs.Names.{section_name}
 use Rattle.numbers.specs.Refusals.{other_machine, file_short}
 use Rattle.octets.specs.Octets.{bytes_of, numbers_of, zeros}
@@ -23,7 +23,7 @@ abbrev pub riscv : ℕ
 riscv = 243
 
 unfoldable pub machine_good : ℕ → Bool
-machine_good machine = eqb machine amd64 || eqb machine aarch64 || eqb machine riscv
+machine_good machine = machine == amd64 || machine == aarch64 || machine == riscv
 
 -- a file names its machine in two bytes, and 0 is none
 unfoldable pub is_machine : ℕ → Bool
@@ -31,7 +31,7 @@ is_machine machine = nat_le 1 machine && nat_le machine 0xFFFF
 
 -- ---- sections "in order of code": every one that is there, empty ones too
 unfoldable pub sections_here : List ℕ → List Part → List Section
-sections_here p ps = map (λ c. record { code = c; bytes = body p ps c }) (those (λ c. leb 1 (count ps c)) codes)
+sections_here p ps = map (λ c. record { code = c; bytes = body p ps c }) (those (λ c. nat_le 1 (count ps c)) codes)
 
 unfoldable pub bodies : List Section → List ℕ
 bodies ss = joined (map (λ s. s.bytes) ss)
@@ -77,7 +77,7 @@ headers big ss = zeros header_size ++ headers_from big (length (name_table ss)) 
 -- ---- the ELF header
 -- 1 is little-endian, 2 big-endian
 unfoldable pub order_code : Bool → ℕ
-order_code big = elim big [ true ↦ 2 | false ↦ 1 ]
+order_code big = if big then 2 else 1
 
 -- class 2 is 64 bits; OS ABI and its version are zero
 unfoldable pub identification : Bool → List ℕ
@@ -120,7 +120,7 @@ file_judged takes p machine = do
 -- "then 37 for a short output": for an output of o bytes
 unfoldable pub in_output : Check (List ℕ) → ℕ → Answer
 in_output (refuse n) o = refused n
-in_output (pass file) o = elim (leb (length file) o) [ true ↦ made file | false ↦ refused file_short ]
+in_output (pass file) o = if nat_le (length file) o then made file else refused file_short
 
 unfoldable pub elf_written : List ℕ → ℕ → ℕ → Answer
 elf_written p machine o = in_output (file_judged machine_good p machine) o

@@ -1,5 +1,5 @@
 // An ELF64 or ELF32 file: its section headers and its name table, and where the bytes of a section lie.
-ghost use Rattle.std.specs.Prelude.{◌≡◌, true, false, ◌&&◌, ◌||◌, [], ◌∷◌, ◌+◌, ◌*◌, ◌≤◌, ◌<◌, eqb, length, take, get_or, MatchOption, IfOk};
+ghost use Rattle.std.specs.Prelude.{◌≡◌, true, false, ◌&&◌, ◌||◌, [], ◌∷◌, ◌+◌, ◌*◌, ◌≤◌, ◌<◌, length, take, MatchOption, IfOk, ◌==◌, slice_index, slice_index_or};
 ghost use Rattle.octets.specs.Lists.{same};
 ghost use Rattle.elf.specs.Classes.{entry_of};
 
@@ -106,7 +106,7 @@ impl Header {
 // The five bytes that start an ELF64 file, and one of the two byte orders.
 fn ident_good(f: &[u8]) -> bool
     requires { 64 ≤ length f.now }
-    ensures { result ≡ (same (take 5 f.now) (0x7F ∷ 0x45 ∷ 0x4C ∷ 0x46 ∷ 2 ∷ []) && (eqb (get_or f.now 5 0) 1 || eqb (get_or f.now 5 0) 2)) }
+    ensures { result ≡ (same (take 5 f.now) (0x7F ∷ 0x45 ∷ 0x4C ∷ 0x46 ∷ 2 ∷ []) && (slice_index f.now 5 == 1 || slice_index f.now 5 == 2)) }
 {
     octets::same_bytes(&f[..5], b"\x7fELF\x02") && matches!(f[5], 1 | 2)
 }
@@ -114,7 +114,7 @@ fn ident_good(f: &[u8]) -> bool
 // The same of an ELF32 file.
 fn ident32_good(f: &[u8]) -> bool
     requires { 52 ≤ length f.now }
-    ensures { result ≡ (same (take 5 f.now) (0x7F ∷ 0x45 ∷ 0x4C ∷ 0x46 ∷ 1 ∷ []) && (eqb (get_or f.now 5 0) 1 || eqb (get_or f.now 5 0) 2)) }
+    ensures { result ≡ (same (take 5 f.now) (0x7F ∷ 0x45 ∷ 0x4C ∷ 0x46 ∷ 1 ∷ []) && (slice_index f.now 5 == 1 || slice_index f.now 5 == 2)) }
 {
     octets::same_bytes(&f[..5], b"\x7fELF\x01") && matches!(f[5], 1 | 2)
 }
@@ -216,7 +216,7 @@ impl<'a> ElfFile<'a> {
     #[tactic(auto, using(crate::proofs::Headers::header64_there, crate::proofs::Headers::header32_there))]
     pub fn header(&self, i: usize) -> Header
         requires { i < self.now.count }
-        ensures { header_is result ≡ get_or (file_is self.now).headers i no_header }
+        ensures { header_is result ≡ slice_index_or (file_is self.now).headers i no_header }
     {
         if let Class::Elf32 = self.class {
             return Header::read_elf32(self.big, self.bytes, i, self.at + ELF32_SECTION_HEADER * i);

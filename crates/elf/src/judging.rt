@@ -1,5 +1,5 @@
 // The headers judged one by one: refusal 31 of names and places, and refusal 32 of sections that cannot be read.
-ghost use Rattle.std.specs.Prelude.{◌≡◌, ◌&&◌, ℕ, ◌<◌, eqb, ltb, drop, get_or};
+ghost use Rattle.std.specs.Prelude.{◌≡◌, ◌&&◌, ℕ, ◌<◌, drop, nat_eq, nat_lt, slice_index_or};
 ghost use Rattle.octets.specs.Lists.{all, any};
 ghost use Rattle.elf.specs.File.{no_header, ended, inside, wanted_of};
 ghost use Rattle.elf.specs.Reader.{readable};
@@ -26,8 +26,8 @@ const COMPRESSED: u64 = 0x800;
 
 // Refusal 31 of one header; last is the place that follows the name table's last zero byte.
 fn header_good(file: &ElfFile, last: usize, i: usize) -> bool
-    requires { (i < file.now.count) × ((n : ℕ) → any (eqb 0) (drop n file.now.names.now) ≡ ltb n last) }
-    ensures { result ≡ header_good file.now.bytes.now file.now.names.now (get_or (file_is file.now).headers i no_header) }
+    requires { (i < file.now.count) × ((n : ℕ) → any (nat_eq 0) (drop n file.now.names.now) ≡ nat_lt n last) }
+    ensures { result ≡ header_good file.now.bytes.now file.now.names.now (slice_index_or (file_is file.now).headers i no_header) }
 {
     let h = file.header(i);
     h.name < last && (file.code_of(h).is_none() || h.found_in(file.bytes).is_some())
@@ -65,7 +65,7 @@ fn relocates_wanted(file: &ElfFile, h: Header) -> bool
 // Refusal 32 of one header: it is no relocation section of a wanted one, and, where it is wanted, its bytes are stored as they are.
 fn header_readable(file: &ElfFile, i: usize) -> bool
     requires { i < file.now.count }
-    ensures { result ≡ header_readable (file_is file.now) (get_or (file_is file.now).headers i no_header) }
+    ensures { result ≡ header_readable (file_is file.now) (slice_index_or (file_is file.now).headers i no_header) }
 {
     let h = file.header(i);
     if relocates_wanted(file, h) {

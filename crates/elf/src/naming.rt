@@ -1,5 +1,5 @@
 // Which sections are wanted, by their names.
-ghost use Rattle.std.specs.Prelude.{◌≡◌, ◌≢◌, ◌<◌, ℕ, eqb, ltb, drop, length, slice_index, EachIndex, MatchOption};
+ghost use Rattle.std.specs.Prelude.{◌≡◌, ◌≢◌, ◌<◌, ℕ, drop, length, slice_index, EachIndex, MatchOption, nat_eq, nat_lt};
 ghost use Rattle.octets.specs.Lists.{any};
 ghost use Rattle.numbers.specs.Names.{section_names};
 ghost use Rattle.elf.specs.File.{starts_with, code_among, code_of};
@@ -43,7 +43,7 @@ fn last_zero(names: &[u8]) -> Option<usize>
 
 // The place that follows the last zero byte, 0 where there is none: a name ends in the table exactly if it starts before this place.
 pub fn last_end(names: &[u8]) -> usize
-    ensures { (n : ℕ) → any (eqb 0) (drop n names.now) ≡ ltb n result }
+    ensures { (n : ℕ) → any (nat_eq 0) (drop n names.now) ≡ nat_lt n result }
 {
     match last_zero(names) {
         Some(i) => i + 1,

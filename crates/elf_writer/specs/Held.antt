@@ -1,6 +1,6 @@
 -- The parts of a file by section codes, as the code measures and writes them: what a section that is missing adds is empty. Nothing here need be believed.
 -- Assumes nothing.
-use Rattle.std.specs.Prelude.{◌≡◌, Bool, true, false, List, [], ◌∷◌, ◌++◌, map, ℕ, ◌+◌, ◌*◌, ◌-◌, ◌≤◌, ◌<◌, leb, length, drop, get_or}
+use Rattle.std.specs.Prelude.{◌≡◌, Bool, true, false, List, [], ◌∷◌, ◌++◌, map, ℕ, ◌+◌, ◌*◌, ◌-◌, ◌≤◌, ◌<◌, length, drop, nat_le, slice_index, if◌then◌else◌}
 use Rattle.numbers.specs.Sections.{section_codes}
 use Rattle.numbers.specs.Names.{section_name}
 use Rattle.numbers.specs.Limits.{package_limit}
@@ -17,30 +17,31 @@ use Rattle.elf_writer.specs.declared.sections.HeaderPlace.{HeaderPlace}
 
 -- ---- one section
 unfoldable pub here : Scan → ℕ → Bool
-here s c = leb 1 (get_or s.count c 0)
+here s c = nat_le 1 (slice_index s.count c)
 
 unfoldable pub size_at : Scan → ℕ → ℕ
-size_at s c = get_or s.size c 0
+size_at s c = slice_index s.size c
 
 unfoldable pub counted : Scan → ℕ → ℕ
-counted s c = elim (here s c) [ true ↦ 1 | false ↦ 0 ]
+counted s c = if here s c then 1 else 0
 
 unfoldable pub name_at : Scan → ℕ → List ℕ
-name_at s c = elim (here s c) [ true ↦ ended_name (section_name c) | false ↦ [] ]
+name_at s c = if here s c then ended_name (section_name c) else []
 
 unfoldable pub body_at : List ℕ → ℕ → List ℕ
 body_at p c = body p (package_in p).parts c
 
 -- its header, and where the next one stands, its name and its bytes
 unfoldable pub header_at : Bool → Scan → ℕ → HeaderPlace → List ℕ
-header_at big s c h = elim (here s c) [ true ↦ section_header big h.name program_bits h.offset (size_at s c) | false ↦ [] ]
+header_at big s c h = if here s c
+    then section_header big h.name program_bits h.offset (size_at s c)
+    else []
 
 unfoldable pub place_after : Scan → ℕ → HeaderPlace → HeaderPlace
 place_after s c h =
-    elim (here s c) [
-      | true ↦ record { at = h.at + header_size; name = h.name + length (section_name c) + 1; offset = h.offset + size_at s c }
-      | false ↦ h
-    ]
+    if here s c
+    then record { at = h.at + header_size; name = h.name + length (section_name c) + 1; offset = h.offset + size_at s c }
+    else h
 
 -- ---- the sections from a code on
 unfoldable pub codes_from : ℕ → List ℕ

@@ -10,7 +10,7 @@ use lib.Dec.{eqb, ltb}
 use lib.ListN.{length, get_or}
 use borrow.Author.Tests.{eq-eqb, ltb-true}
 use Rattle.octets.specs.Lists.{all, those, has}
-use Rattle.std.specs.Prelude.{Result, Ok, Err}
+use Rattle.std.specs.Prelude.{Result, Ok, Err, if◌then◌else◌}
 use Rattle.numbers.specs.declared.refusals.Refusal.{Refusal}
 use Rattle.numbers.specs.declared.refusals.Refusal.TheVariants.{NoRow}
 use Rattle.octets.specs.Checked.{Check, pass, refuse, ◌>>=◌, require}
@@ -101,13 +101,13 @@ all_same : (p q : ℕ → Bool) (xs : List ℕ) → ((c : ℕ) → has xs c ≡ 
 unfolding all has
 all_same p q [] e = refl
 all_same p q (x ∷ xs) e =
-    ap₂ (λ (t r : Bool). elim t as (λ _. Bool) [ true ↦ r | false ↦ false ]) (e x (any_stops (eqb x) x xs (eq-eqb x x refl))) (all_same p q xs (λ c h. e c (any_more (eqb c) x xs h)))
+    ap₂ (λ (t r : Bool). (if t then r else false)) (e x (any_stops (eqb x) x xs (eq-eqb x x refl))) (all_same p q xs (λ c h. e c (any_more (eqb c) x xs h)))
 
 those_same : (p q : ℕ → Bool) (xs : List ℕ) → ((c : ℕ) → has xs c ≡ true → p c ≡ q c) → those p xs ≡ those q xs
 unfolding those has
 those_same p q [] e = refl
 those_same p q (x ∷ xs) e =
-    ap₂ (λ (t : Bool) (r : List ℕ). elim t as (λ _. List ℕ) [ true ↦ x ∷ r | false ↦ r ]) (e x (any_stops (eqb x) x xs (eq-eqb x x refl))) (those_same p q xs (λ c h. e c (any_more (eqb c) x xs h)))
+    ap₂ (λ (t : Bool) (r : List ℕ). (if t then x ∷ r else r)) (e x (any_stops (eqb x) x xs (eq-eqb x x refl))) (those_same p q xs (λ c h. e c (any_more (eqb c) x xs h)))
 
 module _ (f g : BySection ℕ) (same : (c : ℕ) → c < 14 → f c ≡ g c) where
   needed_same : needed_codes f ≡ needed_codes g
@@ -130,7 +130,7 @@ module _ (f g : BySection ℕ) (same : (c : ℕ) → c < 14 → f c ≡ g c) whe
         row_of i (probe i x) >>= λ row.
         (require (all (λ s. is_some (cell_of i row s)) (home ∷ needed)) 15 >>= λ _.
         (require (cell_is (own_place at size) (cell_of i row home)) 16 >>= λ _.
-        (require (steps row) 16 >>= λ _. pass (λ s. elim (has needed s) [ true ↦ cell_of i row s | false ↦ none ]))))
+        (require (steps row) 16 >>= λ _. pass (λ s. if has needed s then cell_of i row s else none))))
 
     row_same : row_contributions i width f x home at size ≡ row_contributions i width g x home at size
     unfolding row_contributions part_good

@@ -1,6 +1,6 @@
 -- What the functions that file whole objects answer, from the definitions.
 -- Assumes nothing.
-use Rattle.std.specs.Prelude.{◌≡◌, Bool, true, false, List, [], ◌++◌, ℕ, ◌+◌, ◌*◌, ◌/◌, ◌≤◌, eqb, leb, length, get_or, Result}
+use Rattle.std.specs.Prelude.{◌≡◌, Bool, true, false, List, [], ◌++◌, ℕ, ◌+◌, ◌*◌, ◌/◌, ◌≤◌, length, Result, ◌==◌, nat_le, slice_index, if◌then◌else◌}
 use Rattle.std.proofs.Math.Option.{Option}
 use Rattle.numbers.specs.Tables.{dwarf5}
 use Rattle.numbers.specs.Sections.{str_offsets_code, str_code, cu_index_code, tu_index_code}
@@ -36,7 +36,7 @@ use Rattle.filing.specs.Tells.{Tells}
 -- ---- 8 and 9
 -- the strings of a str_offsets that is there
 unfoldable pub strings_check : Encoding → Bool → List ℕ → List ℕ → Check (List (List ℕ))
-strings_check e there offsets text = elim there [ true ↦ entries_of e offsets >>= strings_at text | false ↦ pass [] ]
+strings_check e there offsets text = if there then entries_of e offsets >>= strings_at text else pass []
 
 -- the words of the table, at the front of the strings' region, hold the strings used so far, in work w for the bundle b
 pub record StringsIn (b w : List ℕ) (t : StringTable) (ts : List (List ℕ)) : Type 0 where
@@ -67,29 +67,29 @@ StringsAre b v ts room next c r = Tells (λ _ used. StringsPut b v room next (ts
 
 abbrev pub StringsAnswered : List ℕ → StrOffsets → ℕ → StringTable → StringTable → List ℕ → List ℕ → Result (Unit {0}) Refusal → Type 0
 StringsAnswered b o count t next w v r =
-    (ts : List (List ℕ)) → StringsIn b w t ts → StringsAre b v ts t.room next (strings_check (encoding_is o.encoding) (leb 1 count) (bytes_at b o.offsets) (bytes_at b o.strings)) r
+    (ts : List (List ℕ)) → StringsIn b w t ts → StringsAre b v ts t.room next (strings_check (encoding_is o.encoding) (nat_le 1 count) (bytes_at b o.offsets) (bytes_at b o.strings)) r
 
 -- those of the object that a scan has
 abbrev pub str_offsets_in : ObjectEncoding → Scan → StrOffsets
 str_offsets_in e scan =
     record {
       encoding = e;
-      offsets = record { start = get_or scan.start str_offsets_code 0; size = get_or scan.size str_offsets_code 0 };
-      strings = record { start = get_or scan.start str_code 0; size = get_or scan.size str_code 0 };
+      offsets = record { start = slice_index scan.start str_offsets_code; size = slice_index scan.size str_offsets_code };
+      strings = record { start = slice_index scan.start str_code; size = slice_index scan.size str_code };
     }
 
 -- ---- 10
 -- the first section of a code, where a scan has it
 unfoldable pub scanned : List ℕ → Scan → ℕ → List ℕ
-scanned b scan c = part b (get_or scan.start c 0) (get_or scan.size c 0)
+scanned b scan c = part b (slice_index scan.start c) (slice_index scan.size c)
 
 -- it lies in the bundle
 abbrev pub ScanInside : List ℕ → Scan → ℕ → Type 0
-ScanInside b scan c = get_or scan.start c 0 + get_or scan.size c 0 ≤ length b
+ScanInside b scan c = slice_index scan.start c + slice_index scan.size c ≤ length b
 
 -- the index in it, where it is there
 unfoldable pub scanned_index : ObjectEncoding → List ℕ → Scan → ℕ → Check (Option Index)
-scanned_index e b scan c = index_check e.big (form_of (encoding_is e)) (leb 1 (get_or scan.count c 0)) (scanned b scan c)
+scanned_index e b scan c = index_check e.big (form_of (encoding_is e)) (nat_le 1 (slice_index scan.count c)) (scanned b scan c)
 
 -- both, the first refusal first
 abbrev pub scanned_indexes : ObjectEncoding → List ℕ → Scan → Check (Option Index × Option Index)
@@ -106,7 +106,7 @@ IndexesFound b e scan r = Tells (IndexedObject b e scan) (scanned_indexes e b sc
 
 -- ---- everything at hand between two objects: inputs and units are filed up to a place
 pub record AtObject (b : List ℕ) (big : Bool) (first place : ℕ) (w : List ℕ) (st : InProgress) (bases : BySection ℕ) (is : List Input) (us : List Filed) : Type 0 where
-  pub held : Held (eqb (encoding_of big first).version dwarf5) b (words_in b) place w st bases us
+  pub held : Held ((encoding_of big first).version == dwarf5) b (words_in b) place w st bases us
   pub strings : StringsIn b w st.strings (all_used is)
   -- an entry takes at least 4 bytes of a str_offsets section: there is room for those behind the place
   pub used : 4 * length (all_used is) + offsets_from b place ≤ 4 * st.strings.room

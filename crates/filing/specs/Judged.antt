@@ -1,6 +1,6 @@
 -- An object by value, and the definition's.
 -- Assumes nothing.
-use Rattle.std.specs.Prelude.{◌≡◌, Bool, true, false, ◌&&◌, ◌||◌, Option, Some, None, is_some, Result, List, ℕ, ◌+◌, ◌<◌, ◌≤◌, length, get_or, eqb}
+use Rattle.std.specs.Prelude.{◌≡◌, Bool, true, false, ◌&&◌, ◌||◌, Option, Some, None, is_some, Result, List, ℕ, ◌+◌, ◌<◌, ◌≤◌, length, ◌==◌, slice_index, if◌then◌else◌}
 use Rattle.std.proofs.Math.Option as math
 use Rattle.numbers.specs.Sections.{cu_index_code, tu_index_code, section_codes}
 use Rattle.numbers.specs.Refusals.{bad_encoding, other_encoding, wrong_edition, section_missing, bad_index}
@@ -20,7 +20,7 @@ use Rattle.filing.specs.Tells.{Tells}
 
 -- section c of the object
 unfoldable pub section_of : List ℕ → InputObject → ℕ → List ℕ
-section_of b x c = part b (get_or x.start c 0) (get_or x.size c 0)
+section_of b x c = part b (slice_index x.start c) (slice_index x.size c)
 
 -- an index by value, where there is one
 abbrev pub Indexed : Type 0
@@ -40,7 +40,7 @@ packed_by x = x.encoding.five && (is_some x.cu || is_some x.tu)
 pub record InputIs (b : List ℕ) (x : InputObject) (i : Input) : Type 0 where
   pub encoding : encoding_is x.encoding ≡ i.encoding
   pub bytes : (c : ℕ) → c < section_codes → i.bytes c ≡ section_of b x c
-  pub within : (c : ℕ) → get_or x.start c 0 + get_or x.size c 0 ≤ length b
+  pub within : (c : ℕ) → slice_index x.start c + slice_index x.size c ≤ length b
   pub cu_index : IndexedIs x.encoding.big (section_of b x cu_index_code) x.cu i.cu_index
   pub tu_index : IndexedIs x.encoding.big (section_of b x tu_index_code) x.tu i.tu_index
 
@@ -50,7 +50,7 @@ unfoldable pub object_check : Bool → ℕ → ℕ → List Part → Check Encod
 object_check big first word ps = do
   let e = encoding_of big word
   _ ← require (encoding_good e) bad_encoding
-  _ ← require (eqb word first) other_encoding
+  _ ← require (word == first) other_encoding
   _ ← require (edition_good e ps) wrong_edition
   _ ← require (complete ps) section_missing
   pass e
@@ -61,10 +61,9 @@ JudgedIs c r = Tells (λ x e. encoding_is x ≡ e) c r
 -- 10, where the section is there or not; form is the version that an index must have
 unfoldable pub index_check : Bool → ℕ → Bool → List ℕ → Check (math.Option Index)
 index_check big form there s =
-    elim there [
-      | true ↦ index_of big s >>= λ i. (require (eqb i.version form) bad_index >>= λ _. pass (math.some i))
-      | false ↦ pass math.none
-    ]
+    if there
+    then (index_of big s >>= λ i. (require (i.version == form) bad_index >>= λ _. pass (math.some i)))
+    else pass math.none
 
 abbrev pub JudgedIndexIs : Bool → List ℕ → Check (math.Option Index) → Result Indexed Refusal → Type 0
 JudgedIndexIs big s c r = Tells (IndexedIs big s) c r

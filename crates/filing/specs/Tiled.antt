@@ -1,6 +1,6 @@
 -- What the functions for a package of version 5 require and ensure: 34, then 8 and 9 part by part.
 -- Assumes nothing.
-use Rattle.std.specs.Prelude.{◌≡◌, Bool, List, [], ◌++◌, ℕ, ◌+◌, ◌*◌, ◌/◌, ◌≤◌, length, get_or, Result}
+use Rattle.std.specs.Prelude.{◌≡◌, Bool, List, [], ◌++◌, ℕ, ◌+◌, ◌*◌, ◌/◌, ◌≤◌, length, Result, slice_index}
 use Rattle.std.specs.Prelude as code
 use Rattle.std.proofs.Math.Option.{Option}
 use Rattle.numbers.specs.Tables.{dwarf5}
@@ -28,7 +28,7 @@ use Rattle.filing.specs.ByObject.{StringsIn, StringsAre}
 -- ---- 34
 -- the object's sections lie in the bundle, and its indexes are there by value
 pub record PartsAsked (b : List ℕ) (x : InputObject) : Type 0 where
-  pub within : (c : ℕ) → get_or x.start c 0 + get_or x.size c 0 ≤ length b
+  pub within : (c : ℕ) → slice_index x.start c + slice_index x.size c ≤ length b
   pub limit : length b ≤ bundle_limit
   pub cu : Option Index
   pub tu : Option Index

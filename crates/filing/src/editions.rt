@@ -1,6 +1,6 @@
 // 6 and 7, by how many sections of each code an object has.
 ghost use Rattle.std.specs.List.{All, list_all};
-ghost use Rattle.std.specs.Prelude.{◌≡◌, not, ◌&&◌, ◌||◌, ◌<◌, leb, ltb, get_or};
+ghost use Rattle.std.specs.Prelude.{◌≡◌, not, ◌&&◌, ◌||◌, ◌<◌, nat_le, nat_lt, slice_index};
 ghost use Rattle.numbers.specs.Sections.{section_codes};
 ghost use Rattle.octets.specs.Lists.{all};
 ghost use Rattle.filing.specs.Counted.{edition_by, complete_by, wrong_for};
@@ -32,14 +32,14 @@ const ONLY_ONCE: [usize; 11] = [
 // Whether no code of a list has so many sections or more. The lists here hold codes of sections alone.
 fn none_reaches(codes: &[usize], count: [usize; CODES], least: usize) -> bool
     requires { All (λ c. c < section_codes) codes.now }
-    ensures { result ≡ list_all (λ c. ltb (get_or count c 0) least) codes.now }
+    ensures { result ≡ list_all (λ c. nat_lt (slice_index count c) least) codes.now }
 {
     codes.iter().all(|c| count[*c] < least)
 }
 
 // Whether no section is of the wrong edition.
 fn edition_right(five: bool, count: [usize; CODES]) -> bool
-    ensures { result ≡ all (λ c. not (leb 1 (get_or count c 0))) (wrong_for five) }
+    ensures { result ≡ all (λ c. not (nat_le 1 (slice_index count c))) (wrong_for five) }
 {
     if five {
         none_reaches(&WRONG_FIVE, count, 1)
@@ -50,14 +50,14 @@ fn edition_right(five: bool, count: [usize; CODES]) -> bool
 
 // Whether no code other than info and types has a second section.
 fn all_once(count: [usize; CODES]) -> bool
-    ensures { result ≡ all (λ c. not (leb 2 (get_or count c 0))) only_once }
+    ensures { result ≡ all (λ c. not (nat_le 2 (slice_index count c))) only_once }
 {
     none_reaches(&ONLY_ONCE, count, 2)
 }
 
 // Whether an object is a package of version 5, by how many indexes it has.
 pub fn is_packed(five: bool, cu: usize, tu: usize) -> bool
-    ensures { result ≡ (five && (leb 1 cu || leb 1 tu)) }
+    ensures { result ≡ (five && (nat_le 1 cu || nat_le 1 tu)) }
 {
     five && (cu >= 1 || tu >= 1)
 }

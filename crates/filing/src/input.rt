@@ -1,5 +1,5 @@
 // One object, judged up to its units: 4 to 7 and 10. What it answers is by value; the bytes stay in the bundle.
-ghost use Rattle.std.specs.Prelude.{◌≡◌, List, ℕ, ◌+◌, ◌<◌, ◌≤◌, leb, length, get_or, IfSome};
+ghost use Rattle.std.specs.Prelude.{◌≡◌, List, ℕ, ◌+◌, ◌<◌, ◌≤◌, length, IfSome, nat_le, slice_index};
 ghost use Rattle.std.proofs.Math.Option.{Option};
 ghost use Rattle.octets.specs.Options.{found};
 ghost use Rattle.index.specs.Index.{Index};
@@ -43,7 +43,7 @@ impl InputObject {
     // The first section of a code. Callers know that it lies in the bundle.
     #[tactic(auto, using(octets::proofs::Parts::part_cut), unfolding(crate::specs::Judged::section_of))]
     pub fn section<'a>(&self, b: &'a [u8], code: usize) -> &'a [u8]
-        requires { (code < section_codes) × (get_or self.now.start code 0 + get_or self.now.size code 0 ≤ length b.now) }
+        requires { (code < section_codes) × (slice_index self.now.start code + slice_index self.now.size code ≤ length b.now) }
         ensures { result.now ≡ section_of b.now self.now code }
     {
         let start = self.start[code];
@@ -104,7 +104,7 @@ fn form(e: ObjectEncoding) -> u32
 // 10, of a section by its bytes, where there is one: count says how often.
 #[tactic(auto, using(crate::proofs::Judging::index_judged))]
 pub fn judge_index(s: &[u8], e: ObjectEncoding, count: usize) -> Result<Option<IndexHead>, Refusal>
-    ensures { JudgedIndexIs e.big s.now (index_check e.big (form_of (encoding_is e)) (leb 1 count) s.now) result }
+    ensures { JudgedIndexIs e.big s.now (index_check e.big (form_of (encoding_is e)) (nat_le 1 count) s.now) result }
 {
     if count == 0 {
         return Ok(None);

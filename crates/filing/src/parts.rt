@@ -1,5 +1,5 @@
 // A package of version 5: 34, that the parts which rows name tile str_offsets, then 8 and 9 part by part.
-ghost use Rattle.std.specs.Prelude.{◌≡◌, ◌<◌, ◌^◌, length, get_or};
+ghost use Rattle.std.specs.Prelude.{◌≡◌, ◌<◌, ◌^◌, length, slice_index};
 ghost use Rattle.numbers.specs.Sections.{str_offsets_code};
 ghost use Rattle.kept.specs.Regions.{codes_region, Only};
 ghost use Rattle.filing.specs.State.{words_in, OnlyStore};
@@ -46,7 +46,7 @@ fn mark_indexes(b: &[u8], x: &InputObject, marks: &mut [u32]) -> bool
 
 // By marks, a word for each byte of str_offsets.
 fn tile_parts(b: &[u8], x: &InputObject, marks: &mut [u32]) -> Result<usize, Refusal>
-    requires { PartsAsked b.now x.now × (length marks.old ≡ get_or x.now.size str_offsets_code 0) }
+    requires { PartsAsked b.now x.now × (length marks.old ≡ slice_index x.now.size str_offsets_code) }
     ensures { PartsAnswered b.now x.now result }
 {
     marks.fill(0);

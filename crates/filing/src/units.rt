@@ -1,5 +1,5 @@
 // What is read while the units of an object are filed.
-ghost use Rattle.std.specs.Prelude.{◌≡◌, ℕ, ◌<◌, ◌≤◌, ◌^◌, length, get_or};
+ghost use Rattle.std.specs.Prelude.{◌≡◌, ℕ, ◌<◌, ◌≤◌, ◌^◌, length, slice_index};
 
 use crate::input::InputObject;
 
@@ -34,5 +34,5 @@ pub struct Reading<'a> {
     ghost order: { section.start ≤ section.stop },
     ghost within: { section.stop ≤ length bundle.now },
     // As its type says. It is here for a unit's identity, which is read of the bundle by one function and kept by another.
-    ghost bytes: { (i : ℕ) → get_or bundle.now i 0 < 256 },
+    ghost bytes: { (i : ℕ) → slice_index bundle.now i < 256 },
 }

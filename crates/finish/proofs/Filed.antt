@@ -48,20 +48,12 @@ use Rattle.finish.specs.Finish.{package_of, package_in, one_object, AllFiled}
 use Rattle.finish.proofs.Objects.{Matched, none, more, objects_matched, matched_joined}
 use Rattle.finish.proofs.Indexes.{rows_few, table_fits, index_held}
 use Rattle.finish.proofs.TwoTables.{table_asks}
+use Rattle.std.specs.Prelude.{if◌then◌else◌}
 
 -- ---- the sections of the package by code
 unfoldable pub section_of : Filing → List ℕ → List ℕ → ℕ → List ℕ
 section_of f cu tu c =
-    elim (eqb c 1) [
-      | true ↦ unit_bytes (kept f.units) 1
-      | false ↦ elim (eqb c 2) [
-        | true ↦ unit_bytes (kept f.units) 2
-        | false ↦ elim (eqb c 11) [
-          | true ↦ str_of (string_table f.inputs)
-          | false ↦ elim (eqb c 12) [ true ↦ cu | false ↦ elim (eqb c 13) [ true ↦ tu | false ↦ shared_bytes (string_table f.inputs) f.inputs c ] ]
-        ]
-      ]
-    ]
+    if eqb c 1 then unit_bytes (kept f.units) 1 else if eqb c 2 then unit_bytes (kept f.units) 2 else if eqb c 11 then str_of (string_table f.inputs) else if eqb c 12 then cu else if eqb c 13 then tu else shared_bytes (string_table f.inputs) f.inputs c
 
 list_is : (f : Filing) (cu tu : List ℕ) → those non_empty (section_list f cu tu) ≡ sections_by (section_of f cu tu)
 unfolding section_list sections_by sections_from section_of non_empty not_empty

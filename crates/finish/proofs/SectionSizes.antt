@@ -28,8 +28,8 @@ all_listed p [] = refl
 all_listed p (x ∷ xs) = go (p x) refl (all_listed p xs)
   where
     go : (b : Bool) → p x ≡ b → list_all p xs ≡ all p xs → list_all p (x ∷ xs) ≡ all p (x ∷ xs)
-    go true e more = rw e (more ∙ sym (all_cons p x xs e))
-    go false e more = rw e (sym (all_stops p x xs e))
+    go true e more = rw e more
+    go false e more = rw e
 
 -- ---- the cases of a section's frame
 pub framed_none : (n : ℕ) → n ≡ 0 → 0 ≡ framed_size n

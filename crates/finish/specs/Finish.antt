@@ -1,6 +1,6 @@
 -- The rest of `judged` of `package/specs/Pack.antt`, from a bundle whose length and work are good; and what the packer has by then.
 -- Assumes nothing.
-use Rattle.std.specs.Prelude.{◌≡◌, Bool, Result, List, [], ◌∷◌, map, ℕ, ◌/◌, ◌%◌, ◌≤◌, eqb, leb, length}
+use Rattle.std.specs.Prelude.{◌≡◌, Bool, Result, List, [], ◌∷◌, map, ℕ, ◌/◌, ◌%◌, ◌≤◌, length, ◌==◌, nat_le}
 use Rattle.numbers.specs.Tables.{dwarf5}
 use Rattle.numbers.specs.Limits.{section_limit}
 use Rattle.numbers.specs.Sections.{first_shared, last_shared}
@@ -29,7 +29,7 @@ use Rattle.finish.specs.declared.writing.Package.{Package}
 unfoldable pub package_of : Bundle → Filing → Check (List ℕ)
 package_of k f = do
   let ss = package_sections k.big (first_word k.objects % 256) f
-  _ ← require (all (λ s. leb (length s.bytes) section_limit) ss) section_too_long
+  _ ← require (all (λ s. nat_le (length s.bytes) section_limit) ss) section_too_long
   pass (written k.big (package_objects k.objects ss))
 
 -- of a bundle: `judged` behind 1 and 2
@@ -42,7 +42,7 @@ package_in b = do
 -- of one object with these sections by code
 unfoldable pub one_object : Bool → ℕ → (ℕ → List ℕ) → Check (List ℕ)
 one_object big word s = do
-  _ ← require (all (λ x. leb (length x.bytes) section_limit) (sections_by s)) section_too_long
+  _ ← require (all (λ x. nat_le (length x.bytes) section_limit) (sections_by s)) section_too_long
   pass (written big (record { word = word; sections = sections_by s } ∷ []))
 
 -- ---- what the packer has
@@ -55,7 +55,7 @@ pub record AllFiled (big : Bool) (b : List ℕ) (st : InProgress) (w : List ℕ)
   pub filed : filing_of b bundle ≡ pass filing
   pub bases : BySection ℕ
   pub based : (c : ℕ) → first_shared ≤ c → c ≤ last_shared → bases c ≡ length (joined (map (λ i. i.bytes c) filing.inputs))
-  pub held : Held (eqb (first_word bundle.objects % 256) dwarf5) b (length b / 4) (length b) w st bases filing.units
+  pub held : Held (first_word bundle.objects % 256 == dwarf5) b (length b / 4) (length b) w st bases filing.units
   pub few : st.strings.room ≤ length b / 4
   pub strings : Kept b (table_words w (length b / 4) st.strings.room) st.strings (all_used filing.inputs)
 

@@ -1,6 +1,6 @@
 -- The bytes of a shared section over all objects.
 -- Assumes nothing.
-use Rattle.std.specs.Prelude.{◌≡◌, Bool, true, false, Option, Some, None, List, [], ◌∷◌, ◌++◌, map, ℕ, zero, suc, ◌+◌, ◌<◌, ◌≤◌, eqb, length, take, drop}
+use Rattle.std.specs.Prelude.{◌≡◌, Bool, true, false, Option, Some, None, List, [], ◌∷◌, ◌++◌, map, ℕ, zero, suc, ◌+◌, ◌<◌, ◌≤◌, length, take, drop, ◌==◌, if◌then◌else◌}
 use Rattle.std.specs.Borrow.{Bor}
 use Rattle.numbers.specs.Sections.{str_offsets_code, str_code, section_codes}
 use Rattle.octets.specs.Lists.{joined}
@@ -35,7 +35,9 @@ remapped_in e table offsets str = remapped_pieces e table str (cut e offsets)
 -- what an object gives of it: its first section of the code, remapped by the table or as it is
 unfoldable pub given : Bool → Encoding → List (List ℕ) → List ℕ → ℕ → Object → List ℕ
 given remapped e table b c o =
-    elim remapped [ true ↦ remapped_in e table (body b o.parts str_offsets_code) (body b o.parts str_code) | false ↦ body b o.parts c ]
+    if remapped
+    then remapped_in e table (body b o.parts str_offsets_code) (body b o.parts str_code)
+    else body b o.parts c
 
 -- each object's, one behind the other
 unfoldable pub joined_by : Bool → Encoding → List (List ℕ) → List ℕ → List Object → ℕ → List ℕ
@@ -43,7 +45,7 @@ joined_by remapped e table b os c = joined (map (given remapped e table b c) os)
 
 -- of str_offsets remapped, of any other as they are
 unfoldable pub shared_joined : Encoding → List (List ℕ) → List ℕ → List Object → ℕ → List ℕ
-shared_joined e table b os c = joined_by (eqb c str_offsets_code) e table b os c
+shared_joined e table b os c = joined_by (c == str_offsets_code) e table b os c
 
 -- ---- strings
 -- 8 and 9 let each piece of a str_offsets pass, and its entries name these strings; there is no piece of an empty one
@@ -69,7 +71,7 @@ table_lent (Some t) = t.now
 table_lent None = []
 
 unfoldable pub remaps : Option (Bor (List ℕ)) → ℕ → Bool
-remaps (Some t) code = eqb code str_offsets_code
+remaps (Some t) code = code == str_offsets_code
 remaps None code = false
 
 -- a bundle that can be read, and room for the section at a place of n bytes; where it is remapped the strings' places too

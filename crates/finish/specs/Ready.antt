@@ -1,6 +1,6 @@
 -- What the packer has when all objects are filed and both tables are placed, towards the sections of the package by code.
 -- Assumes nothing.
-use Rattle.std.specs.Prelude.{◌≡◌, Bool, true, false, List, [], ◌∷◌, ◌++◌, ℕ, ◌+◌, ◌*◌, ◌-◌, ◌/◌, ◌<◌, ◌≤◌, eqb, length, get_or, set}
+use Rattle.std.specs.Prelude.{◌≡◌, Bool, true, false, List, [], ◌∷◌, ◌++◌, ℕ, ◌+◌, ◌*◌, ◌-◌, ◌/◌, ◌<◌, ◌≤◌, length, set, ◌==◌, slice_index, if◌then◌else◌}
 use Rattle.numbers.specs.Sections.{info_code, types_code, str_offsets_code, str_code, cu_index_code, tu_index_code, section_codes, first_shared, last_shared}
 use Rattle.octets.specs.Octets.{placed, padded, zeros}
 use Rattle.octets.specs.Checked.{pass}
@@ -32,7 +32,9 @@ use Rattle.finish.specs.declared.writing.Package.{Package}
 -- ---- sizes
 -- a table's index, 0 without rows
 unfoldable pub index_size_of : Bool → Table → ℕ
-index_size_of five t = elim (eqb t.rows 0) [ true ↦ 0 | false ↦ index_size (length (codes_in five t.has)) t.rows (slots_for t.rows) ]
+index_size_of five t = if t.rows == 0
+    then 0
+    else index_size (length (codes_in five t.has)) t.rows (slots_for t.rows)
 
 -- by section code
 unfoldable pub sizes_of : Bool → InProgress → List ℕ
@@ -109,7 +111,7 @@ pub record Ready (e : ObjectEncoding) (b : List ℕ) (st : InProgress) (w : List
   pub str_is : s str_code ≡ str_of (first_uses used)
   pub good : UsedBy (encoding_is e) b bundle.objects used
   -- shared sections
-  pub based : (c : ℕ) → first_shared ≤ c → c ≤ last_shared → get_or st.bases c 0 ≡ length (sections_joined b bundle.objects c)
+  pub based : (c : ℕ) → first_shared ≤ c → c ≤ last_shared → slice_index st.bases c ≡ length (sections_joined b bundle.objects c)
   pub shared : (c : ℕ) → first_shared ≤ c → c ≤ last_shared → s c ≡ shared_joined (encoding_is e) (first_uses used) b bundle.objects c
   -- indexes
   pub cu : IndexHeld (form_of e compilation_table st.units.cu) (length b / 4) st.units.count w (s cu_index_code)
@@ -127,7 +129,7 @@ words_of p = length p.bundle.now / 4
 pub record SharedOf (p : Package) (s : SharedSections) : Type 0 where
   pub encoding : s.encoding ≡ p.encoding
   pub bundle : s.bundle.now ≡ p.bundle.now
-  pub remapped : (code : ℕ) → remaps s.table code ≡ eqb code str_offsets_code
+  pub remapped : (code : ℕ) → remaps s.table code ≡ (code == str_offsets_code)
   pub table : table_lent s.table ≡ table_words p.work.now (words_of p) p.state.strings.room
 
 -- one section fits at a place of n bytes
@@ -143,7 +145,9 @@ SectionPut code p at d x = (s : ℕ → List ℕ) → ReadyFor p s → x ≡ pla
 
 -- the same with its word, where it is not empty
 unfoldable pub framed_in : List ℕ → ℕ → ℕ → List ℕ → List ℕ
-framed_in d at c x = elim (eqb (length x) 0) [ true ↦ d | false ↦ placed d at (word_bytes (0x2000_0000 + c * 0x80_0000 + length x) ++ x) ]
+framed_in d at c x = if length x == 0
+    then d
+    else placed d at (word_bytes (0x2000_0000 + c * 0x80_0000 + length x) ++ x)
 
 pub record FrameWritable (code size : ℕ) (p : Package) (n at : ℕ) : Type 0 where
   pub sections : ℕ → List ℕ

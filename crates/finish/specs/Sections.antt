@@ -1,6 +1,6 @@
 -- The sections of a package by code, 1 to 13, and the length of the package by their sizes.
 -- Assumes nothing.
-use Rattle.std.specs.Prelude.{◌≡◌, Bool, true, false, List, [], ◌∷◌, ℕ, zero, suc, ◌+◌, ◌<◌, ◌≤◌, leb, eqb, length, get_or}
+use Rattle.std.specs.Prelude.{◌≡◌, Bool, true, false, List, [], ◌∷◌, ℕ, zero, suc, ◌+◌, ◌<◌, ◌≤◌, length, ◌==◌, nat_le, slice_index, if◌then◌else◌}
 use Rattle.numbers.specs.Limits.{section_limit}
 use Rattle.numbers.specs.Sections.{section_codes}
 use Rattle.octets.specs.Lists.{all, those}
@@ -13,7 +13,7 @@ sections_from bytes c zero = []
 sections_from bytes c (suc n) = record { code = c; bytes = bytes c } ∷ sections_from bytes (c + 1) n
 
 unfoldable pub not_empty : Section → Bool
-not_empty s = leb 1 (length s.bytes)
+not_empty s = nat_le 1 (length s.bytes)
 
 -- "each non-empty section once in order of code"
 unfoldable pub sections_by : (ℕ → List ℕ) → List Section
@@ -21,15 +21,15 @@ sections_by bytes = those not_empty (sections_from bytes 1 13)
 
 -- 19, by the sizes
 unfoldable pub sizes_good : List ℕ → Bool
-sizes_good sizes = all (λ n. leb n section_limit) sizes
+sizes_good sizes = all (λ n. nat_le n section_limit) sizes
 
 -- a section with its word, filled up to whole words
 unfoldable pub framed_size : ℕ → ℕ
-framed_size n = elim (eqb n 0) [ true ↦ 0 | false ↦ 4 + filled_up n ]
+framed_size n = if n == 0 then 0 else 4 + filled_up n
 
 unfoldable pub framed_from : List ℕ → ℕ → ℕ → ℕ
 framed_from sizes c zero = 0
-framed_from sizes c (suc n) = framed_size (get_or sizes c 0) + framed_from sizes (c + 1) n
+framed_from sizes c (suc n) = framed_size (slice_index sizes c) + framed_from sizes (c + 1) n
 
 -- head, object word, sections, end
 unfoldable pub length_of : List ℕ → ℕ
@@ -38,5 +38,5 @@ length_of sizes = 12 + framed_from sizes 1 13
 -- sizes are those of the sections
 pub record Sized (sizes : List ℕ) (bytes : ℕ → List ℕ) : Type 0 where
   pub fourteen : length sizes ≡ section_codes
-  pub zeroth : get_or sizes 0 0 ≡ 0
-  pub are : (c : ℕ) → 1 ≤ c → c < section_codes → get_or sizes c 0 ≡ length (bytes c)
+  pub zeroth : slice_index sizes 0 ≡ 0
+  pub are : (c : ℕ) → 1 ≤ c → c < section_codes → slice_index sizes c ≡ length (bytes c)

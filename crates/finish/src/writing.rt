@@ -1,5 +1,5 @@
 // The package written front to back.
-ghost use Rattle.std.specs.Prelude.{◌≡◌, ◌*◌, ◌/◌, ◌≤◌, length};
+ghost use Rattle.std.specs.Prelude.{◌≡◌, ◌*◌, ◌/◌, ◌≤◌, length, slice_index, slice_index_or};
 ghost use Rattle.numbers.specs.Limits.{bundle_limit, work_for_word};
 
 use crate::joining::SharedSections;
@@ -32,7 +32,7 @@ pub struct Package<'a> {
 }
 
 impl Package<'_> {
-    ghost use Rattle.std.specs.Prelude.{◌+◌, get_or, List, ℕ};
+    ghost use Rattle.std.specs.Prelude.{◌+◌, slice_index_or, List, ℕ};
     ghost use Rattle.octets.specs.Octets.{placed};
     ghost use Rattle.kept.specs.Regions.{table_words};
     ghost use Rattle.finish.specs.Sections.{framed_size};
@@ -124,9 +124,9 @@ impl Package<'_> {
 
     // One section with its word, where it isn't empty. Returns the place that follows it.
     fn write_framed(&self, code: usize, out: &mut [u8], at: usize) -> usize
-        requires { FrameWritable code (get_or self.now.sizes code 0) self.now (length out.old) at }
-        ensures next { result ≡ at + framed_size (get_or self.now.sizes code 0) }
-        ensures output { FramePut code (get_or self.now.sizes code 0) self.now at out.old out.new }
+        requires { FrameWritable code (slice_index self.now.sizes code) self.now (length out.old) at }
+        ensures next { result ≡ at + framed_size (slice_index self.now.sizes code) }
+        ensures output { FramePut code (slice_index self.now.sizes code) self.now at out.old out.new }
     {
         let size = self.sizes[code];
         if size == 0 {

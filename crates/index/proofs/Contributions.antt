@@ -17,6 +17,7 @@ use Rattle.octets.proofs.Options.{some_inj, some_none}
 use Rattle.index.specs.Index.{Index, Contribution, cell_of}
 use Rattle.index.specs.Probing.{probe}
 use Rattle.index.specs.Rows.{BySection, shared, needed_codes, is_some, row_of, cell_is, own_place, part_good, row_contributions, whole_contributions}
+use Rattle.std.specs.Prelude.{if◌then◌else◌}
 
 -- ---- lists of codes
 pub all_has : (f : ℕ → Bool) (xs : List ℕ) (c : ℕ) → all f xs ≡ true → has xs c ≡ true → f c ≡ true
@@ -97,7 +98,7 @@ row_contributed i width lengths x home at size g q c k e =
     from row.0 steps.0 (ap (λ (h : BySection (Option Contribution)). h c) (pass_inj steps.1) ∙ e)
   where
     from : (row : ℕ) → all (λ s. cell_is (part_good width lengths s) (cell_of i row s)) (needed_codes lengths) ≡ true
-        → (elim (has (needed_codes lengths) c) as (λ b. Option Contribution) [ true ↦ cell_of i row c | false ↦ none ]) ≡ some k → Contributed width lengths c k
+        → (if has (needed_codes lengths) c then cell_of i row c else none) ≡ some k → Contributed width lengths c k
     from row a h = ⊎_elim
         (λ (p : has (needed_codes lengths) c ≡ true). part_good_law width lengths c k p (cell_is_law (part_good width lengths c) (cell_of i row c) k (rw p at h)
         (all_has (λ s. cell_is (part_good width lengths s) (cell_of i row s)) (needed_codes lengths) c a p)))
@@ -116,7 +117,7 @@ row_cells i width lengths x home at size g q =
     let steps = require_pass (all (λ s. cell_is (part_good width lengths s) (cell_of i row.0 s)) (needed_codes lengths)) 16 _ g own.1 in
     (row.0, row.1, λ c k e. from row.0 c k (ap (λ (h : BySection (Option Contribution)). h c) (pass_inj steps.1) ∙ e))
   where
-    from : (row c : ℕ) (k : Contribution) → (elim (has (needed_codes lengths) c) as (λ b. Option Contribution) [ true ↦ cell_of i row c | false ↦ none ]) ≡ some k → cell_of i row c ≡ some k
+    from : (row c : ℕ) (k : Contribution) → (if has (needed_codes lengths) c then cell_of i row c else none) ≡ some k → cell_of i row c ≡ some k
     from row c k h = ⊎_elim
         (λ (p : has (needed_codes lengths) c ≡ true). rw p at h)
         (λ (p : has (needed_codes lengths) c ≡ false). some_none (sym (rw p at h)))

@@ -19,6 +19,7 @@ use Rattle.index.specs.Held.{Well, probed_of}
 use Rattle.index.specs.declared.probing.Probed.{Probed}
 use Rattle.index.proofs.Heads.{well_facts}
 use Rattle.index.proofs.LawLooks.{look_unused, look_found, look_on, looks_of, search_looks}
+use Rattle.std.specs.Prelude.{if◌then◌else◌}
 
 -- a slot where a search ends is used, and has the identity
 pub record Ended (rows ids : List ℕ) (x slot : ℕ) : Type 0 where
@@ -52,7 +53,7 @@ slots_head : (units x r : ℕ) (xs rs : List ℕ) → slots_good units (x ∷ xs
 unfolding slots_good
 slots_head units x r xs rs e = go (leb r units && zero_together r x) refl e
   where
-    go : (t : Bool) → (leb r units && zero_together r x) ≡ t → elim t [ true ↦ slots_good units xs rs | false ↦ false ] ≡ true → (r ≤ units) × (slots_good units xs rs ≡ true)
+    go : (t : Bool) → (leb r units && zero_together r x) ≡ t → (if t then slots_good units xs rs else false) ≡ true → (r ≤ units) × (slots_good units xs rs ≡ true)
     go true p q = (leb-true r units (and_left (leb r units) (zero_together r x) p), q)
     go false p q = absurd (true_false q refl)
 

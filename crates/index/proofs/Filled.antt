@@ -21,7 +21,7 @@ use Rattle.index.specs.Index.{Contribution}
 use Rattle.index.specs.Rows.{BySection, shared, needed_codes, whole_contributions}
 use Rattle.index.specs.Cells.{cell_found}
 use Rattle.index.specs.Contributed.{Cell, ContributionsAre, with_cell, chosen}
-use Rattle.std.specs.Prelude.{None}
+use Rattle.std.specs.Prelude.{None, if◌then◌else◌}
 use Rattle.index.specs.declared.judging.Contributions.{Contributions}
 use Rattle.index.proofs.Judgements.{shared_at}
 
@@ -82,7 +82,7 @@ with_full k c n cell h = rw (with_cell, ne_eqb n 0 h)
 
 -- ---- filled up to a code
 unfoldable pub up_to : ℕ → BySection (Option Contribution) → BySection (Option Contribution)
-up_to c f d = elim (ltb d c) [ true ↦ f d | false ↦ none ]
+up_to c f d = if ltb d c then f d else none
 
 up_to_below : (c : ℕ) (f : BySection (Option Contribution)) (d : ℕ) → d < c → up_to c f d ≡ f d
 unfolding up_to

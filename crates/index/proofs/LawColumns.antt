@@ -14,10 +14,11 @@ use Rattle.octets.proofs.Lists.{all_cons, all_head, all_tail, those_keeps, those
 use Rattle.octets.proofs.Elements.{has_cons, has_skips, distinct_cons, distinct_head, distinct_tail}
 use Rattle.index.specs.Columns.{Column, columns_four, columns_five, columns_of}
 use Rattle.index.specs.Index.{columns_most, code_good}
+use Rattle.std.specs.Prelude.{if◌then◌else◌}
 
 -- the index's own version: 5 for 5, else 2
 unfoldable pub form_of : ℕ → ℕ
-form_of version = elim (eqb version 5) [ true ↦ 5 | false ↦ 2 ]
+form_of version = if eqb version 5 then 5 else 2
 
 pub forms : (version : ℕ)
     → ((eqb version 5 ≡ true) × (form_of version ≡ 5) × (columns_of version ≡ columns_five))

@@ -11,7 +11,7 @@ use lib.Dec.{eqb, leb, ltb}
 use lib.ListN.{length}
 use borrow.Author.Tests.{le-leb, lt-leb, eqb-true}
 use Rattle.std.specs.Prelude as std
-use Rattle.std.specs.Prelude.{Some, None}
+use Rattle.std.specs.Prelude.{Some, None, if◌then◌else◌}
 use Rattle.octets.specs.Octets.{number_at}
 use Rattle.octets.specs.Lists.{all, distinct}
 use Rattle.octets.specs.Checked.{Check, pass, refuse, require, ◌>>=◌}
@@ -26,7 +26,7 @@ pub columns_eight : (v : ℕ) → columns_most v ≤ 8
 unfolding columns_most
 columns_eight v = go (eqb v 5)
   where
-    go : (t : Bool) → elim t [ true ↦ 7 | false ↦ 8 ] ≤ 8
+    go : (t : Bool) → (if t then 7 else 8) ≤ 8
     go true = omega arith
     go false = omega arith
 
@@ -40,7 +40,7 @@ unfolding version_of
 version_known big s = go (eqb (number_at big 4 s 0) 2) (eqb (number_at big 2 s 0) 5 && eqb (number_at big 2 s 2) 0)
   where
     of : Bool → Bool → ℕ
-    of t u = elim t [ true ↦ 2 | false ↦ elim u [ true ↦ 5 | false ↦ 0 ] ]
+    of t u = (if t then 2 else if u then 5 else 0)
 
     go : (t u : Bool) → not (eqb (of t u) 0) ≡ (eqb (of t u) 2 || eqb (of t u) 5)
     go true u = refl
@@ -58,7 +58,7 @@ module _ (big : Bool) (s : List ℕ) where
     unfolding head_named front_good version_named
     named_version e = go (eqb (version_of big s) 0) refl e
       where
-        go : (t : Bool) → eqb (version_of big s) 0 ≡ t → ◌≡◌ {A = std.Option ℕ} None (elim t [ true ↦ None | false ↦ Some (version_of big s) ]) → None ≡ head_named big s
+        go : (t : Bool) → eqb (version_of big s) 0 ≡ t → ◌≡◌ {A = std.Option ℕ} None (if t then None else Some (version_of big s)) → None ≡ head_named big s
         go true p q = rw (head_named, front_good, le-leb 16 (length s) long, p)
         go false p q = absurd (let z : ◌≡◌ {A = ℕ} 0 1 = cc in omega arith)
 
@@ -66,7 +66,7 @@ module _ (big : Bool) (s : List ℕ) where
     unfolding version_named
     version_some v e = go (eqb (version_of big s) 0) refl e
       where
-        go : (t : Bool) → eqb (version_of big s) 0 ≡ t → ◌≡◌ {A = std.Option ℕ} (Some v) (elim t [ true ↦ None | false ↦ Some (version_of big s) ])
+        go : (t : Bool) → eqb (version_of big s) 0 ≡ t → ◌≡◌ {A = std.Option ℕ} (Some v) (if t then None else Some (version_of big s))
             → (eqb (version_of big s) 0 ≡ false) × (v ≡ version_of big s)
         go true p q = absurd (let z : ◌≡◌ {A = ℕ} 0 1 = cc in omega arith)
         go false p q = (p, cc)
@@ -93,7 +93,7 @@ module _ (big : Bool) (s : List ℕ) where
   unfolding head_named
   named_some h e = go (front_good big s) refl e
     where
-      go : (t : Bool) → front_good big s ≡ t → ◌≡◌ {A = std.Option IndexHead} (Some h) (elim t [ true ↦ Some (stated big s) | false ↦ None ]) → (front_good big s ≡ true) × (h ≡ stated big s)
+      go : (t : Bool) → front_good big s ≡ t → ◌≡◌ {A = std.Option IndexHead} (Some h) (if t then Some (stated big s) else None) → (front_good big s ≡ true) × (h ≡ stated big s)
       go true p q = (p, cc)
       go false p q = absurd (let z : ◌≡◌ {A = ℕ} 0 1 = cc in omega arith)
 
@@ -101,7 +101,7 @@ module _ (big : Bool) (s : List ℕ) where
   unfolding head_named
   named_none e = go (front_good big s) refl e
     where
-      go : (t : Bool) → front_good big s ≡ t → ◌≡◌ {A = std.Option IndexHead} None (elim t [ true ↦ Some (stated big s) | false ↦ None ]) → front_good big s ≡ false
+      go : (t : Bool) → front_good big s ≡ t → ◌≡◌ {A = std.Option IndexHead} None (if t then Some (stated big s) else None) → front_good big s ≡ false
       go true p q = absurd (let z : ◌≡◌ {A = ℕ} 0 1 = cc in omega arith)
       go false p q = p
 

@@ -1,6 +1,6 @@
 -- "Columns in order, with codes": which sections an index has columns for, by its version.
 -- Assumes nothing.
-use Rattle.std.specs.Prelude.{true, false, List, [], ◌∷◌, ℕ, eqb}
+use Rattle.std.specs.Prelude.{true, false, List, [], ◌∷◌, ℕ, ◌==◌, if◌then◌else◌}
 use Rattle.std.proofs.Math.Option.{Option, some, none}
 use Rattle.numbers.specs.Tables.{index5}
 use Rattle.numbers.specs.Sections.{info_code, types_code, abbrev_code, line_code, loc_code, str_offsets_code, macinfo_code, macro_code, loclists_code, rnglists_code}
@@ -27,8 +27,8 @@ columns_five =
 
 -- by the DWARF version or the index's own: 5, or 4 and 2
 unfoldable pub columns_of : ℕ → List Column
-columns_of version = elim (eqb version index5) [ true ↦ columns_five | false ↦ columns_four ]
+columns_of version = if version == index5 then columns_five else columns_four
 
 unfoldable pub column_in : List Column → ℕ → Option ℕ
 column_in [] section = none
-column_in (c ∷ cs) section = elim (eqb c.section section) [ true ↦ some c.column | false ↦ column_in cs section ]
+column_in (c ∷ cs) section = if c.section == section then some c.column else column_in cs section

@@ -1,6 +1,6 @@
 -- Contributions as the code holds them, by section code in an array.
 -- Assumes nothing.
-use Rattle.std.specs.Prelude.{◌≡◌, Bool, true, false, not, ◌&&◌, ◌||◌, List, ℕ, ◌+◌, ◌%◌, eqb, leb, length, get_or, set}
+use Rattle.std.specs.Prelude.{◌≡◌, Bool, true, false, not, ◌&&◌, ◌||◌, List, ℕ, ◌+◌, ◌%◌, length, set, ◌==◌, nat_le, slice_index, slice_index_or, if◌then◌else◌}
 use Rattle.std.proofs.Math.Option.{Option, none}
 use Rattle.numbers.specs.Sections.{str_offsets_code, section_codes}
 use Rattle.octets.specs.Checked.{Check, pass, refuse}
@@ -20,7 +20,7 @@ use Rattle.index.specs.declared.judging.OwnUnit.{OwnUnit}
 
 -- numbers in an array, by section code
 unfoldable pub by_code : List ℕ → BySection ℕ
-by_code ns c = get_or ns c 0
+by_code ns c = slice_index ns c
 
 -- a cell as the code has it
 abbrev pub Cell : Type 0
@@ -28,14 +28,14 @@ Cell = std.Option code.Contribution
 
 -- ---- tests of a cell
 unfoldable pub own_cell : ℕ → ℕ → Cell → Bool
-own_cell at size (Some c) = eqb c.offset at && eqb c.size size
+own_cell at size (Some c) = c.offset == at && c.size == size
 own_cell at size None = false
 
 unfoldable pub whole_entries : ℕ → ℕ → ℕ → ℕ → Bool
-whole_entries width section o z = not (eqb section str_offsets_code) || (eqb (o % width) 0 && eqb (z % width) 0)
+whole_entries width section o z = not (section == str_offsets_code) || (o % width == 0 && z % width == 0)
 
 unfoldable pub good_cell : ℕ → ℕ → ℕ → Cell → Bool
-good_cell width n section (Some c) = leb (c.offset + c.size) n && whole_entries width section c.offset c.size
+good_cell width n section (Some c) = nat_le (c.offset + c.size) n && whole_entries width section c.offset c.size
 good_cell width n section None = false
 
 -- ---- contributions in an array
@@ -44,7 +44,7 @@ Whole k = length k.cells ≡ section_codes
 
 -- the cell of a section among them
 abbrev pub cell_held : Contributions → ℕ → Cell
-cell_held k c = get_or k.cells c None
+cell_held k c = slice_index_or k.cells c None
 
 abbrev pub has_cell : Contributions → ℕ → Bool
 has_cell k c = is_some (cell_held k c)
@@ -62,11 +62,11 @@ good_held width lengths k c = good_cell width (lengths c) c (cell_held k c)
 
 -- one more, where the section is not empty
 unfoldable pub with_cell : Contributions → ℕ → ℕ → Cell → Contributions
-with_cell k c n cell = elim (eqb n 0) [ true ↦ k | false ↦ record { cells = set k.cells c cell } ]
+with_cell k c n cell = if n == 0 then k else record { cells = set k.cells c cell }
 
 -- a contribution for each shared section that is not empty
 unfoldable pub chosen : BySection ℕ → BySection (Option Contribution) → BySection (Option Contribution)
-chosen lengths f s = elim (has (needed_codes lengths) s) [ true ↦ f s | false ↦ none ]
+chosen lengths f s = if has (needed_codes lengths) s then f s else none
 
 -- the row of a unit by value
 unfoldable pub judged_row : Index → Measures → OwnUnit → Check (BySection (Option Contribution))

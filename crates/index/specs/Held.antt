@@ -5,7 +5,7 @@ use native.Mathlib.Decide.{dec_lt}
 use mathlib.Core.Path.{ap, subst}
 use Rattle.std.proofs.Math.Pow.{pow-lt}
 use Rattle.std.proofs.Math.Nat.{ℕ_set}
-use Rattle.std.specs.Prelude.{◌≡◌, Option, Some, None, Bool, true, false, not, ◌&&◌, List, ℕ, ◌+◌, ◌*◌, ◌^◌, eqb, leb, ltb, length}
+use Rattle.std.specs.Prelude.{◌≡◌, Option, Some, None, Bool, true, false, not, ◌&&◌, List, ℕ, ◌+◌, ◌*◌, ◌^◌, length, ◌==◌, nat_le, nat_lt, if◌then◌else◌}
 use Rattle.octets.specs.Octets.{number_at}
 use Rattle.octets.specs.Checked.{pass, mapped}
 use Rattle.index.specs.Index.{Index, version_of, columns_most, least_power, index_of, layout}
@@ -42,21 +42,21 @@ stated big s = record { version = version_of big s; columns = number_at big 4 s 
 
 -- the version, where the start names one
 unfoldable pub version_named : Bool → List ℕ → Option ℕ
-version_named big s = elim (eqb (version_of big s) 0) [ true ↦ None | false ↦ Some (version_of big s) ]
+version_named big s = if version_of big s == 0 then None else Some (version_of big s)
 
 -- the tests on the numbers in the front of a section of n bytes
 unfoldable pub head_good : ℕ → IndexHead → Bool
 head_good n h =
-    leb h.columns (columns_most h.version) && ltb h.units h.slots && eqb (least_power h.slots) h.slots
-    && eqb n (16 + 12 * h.slots + 4 * h.columns + 8 * (h.units * h.columns))
+    nat_le h.columns (columns_most h.version) && nat_lt h.units h.slots && least_power h.slots == h.slots
+    && n == 16 + 12 * h.slots + 4 * h.columns + 8 * (h.units * h.columns)
 
 -- all tests on the front
 unfoldable pub front_good : Bool → List ℕ → Bool
-front_good big s = leb 16 (length s) && not (eqb (version_of big s) 0) && head_good (length s) (stated big s)
+front_good big s = nat_le 16 (length s) && not (version_of big s == 0) && head_good (length s) (stated big s)
 
 -- what it states, where they pass
 unfoldable pub head_named : Bool → List ℕ → Option IndexHead
-head_named big s = elim (front_good big s) [ true ↦ Some (stated big s) | false ↦ None ]
+head_named big s = if front_good big s then Some (stated big s) else None
 
 -- the index that a head and a section's bytes are
 unfoldable pub index_in : Bool → List ℕ → IndexHead → Index

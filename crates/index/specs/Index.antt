@@ -1,6 +1,6 @@
 -- An index read: well formed (10 in packing, 21 in a lookup), and the cell of a row.
 -- Assumes nothing.
-use Rattle.std.specs.Prelude.{Bool, true, false, ◌&&◌, ◌||◌, List, [], ◌∷◌, ℕ, zero, suc, ◌+◌, ◌*◌, ◌-◌, eqb, leb, ltb, length, drop, get_or}
+use Rattle.std.specs.Prelude.{Bool, true, false, ◌&&◌, ◌||◌, List, [], ◌∷◌, ℕ, zero, suc, ◌+◌, ◌*◌, ◌-◌, length, drop, ◌==◌, nat_le, nat_lt, slice_index, if◌then◌else◌}
 use Rattle.std.proofs.Math.Option.{Option, some, none}
 use Rattle.numbers.specs.Tables.{index2, index5, columns2, columns5, last_column, types_column}
 use Rattle.numbers.specs.Refusals.{bad_index}
@@ -24,22 +24,23 @@ pub record Index : Type 0 where
 -- "the word 2"; "Version 5 starts with 16-bit 5 and 0 for the word 2"; 0 where the start names neither form
 unfoldable pub version_of : Bool → List ℕ → ℕ
 version_of big s =
-    elim (eqb (number_at big 4 s 0) index2) [
-      | true ↦ index2
-      | false ↦ elim (eqb (number_at big 2 s 0) index5 && eqb (number_at big 2 s 2) 0) [ true ↦ index5 | false ↦ 0 ]
-    ]
+    if number_at big 4 s 0 == index2
+    then index2
+    else if number_at big 2 s 0 == index5 && number_at big 2 s 2 == 0 then index5 else 0
 
 -- "C is at most 8, codes are 1 to 8"; "version 5: at most 7 columns, codes 1 and 3 to 8"
 unfoldable pub columns_most : ℕ → ℕ
-columns_most version = elim (eqb version index5) [ true ↦ columns5 | false ↦ columns2 ]
+columns_most version = if version == index5 then columns5 else columns2
 
 unfoldable pub code_good : ℕ → ℕ → Bool
-code_good version c = elim (eqb version index5 && eqb c types_column) [ true ↦ false | false ↦ leb 1 c && leb c last_column ]
+code_good version c = if version == index5 && c == types_column
+    then false
+    else nat_le 1 c && nat_le c last_column
 
 -- the least of p, 2 p, 4 p, .. that is n or more, within so many doublings
 unfoldable pub power_from : ℕ → ℕ → ℕ → ℕ
 power_from zero p n = p
-power_from (suc k) p n = elim (leb n p) [ true ↦ p | false ↦ power_from k (2 * p) n ]
+power_from (suc k) p n = if nat_le n p then p else power_from k (2 * p) n
 
 -- the least power of two not below n, for n of 32 bits
 unfoldable pub least_power : ℕ → ℕ
@@ -49,7 +50,7 @@ least_power n = power_from 32 1 n
 unfoldable pub slots_good : ℕ → List ℕ → List ℕ → Bool
 slots_good units [] rows = true
 slots_good units (x ∷ xs) [] = true
-slots_good units (x ∷ xs) (r ∷ rs) = elim (leb r units && zero_together r x) [ true ↦ slots_good units xs rs | false ↦ false ]
+slots_good units (x ∷ xs) (r ∷ rs) = if nat_le r units && zero_together r x then slots_good units xs rs else false
 
 -- columns C, units U, slots S, then S identities of 8 bytes, S row numbers, C column codes, U times C offsets, U times C sizes
 unfoldable pub layout : Bool → ℕ → ℕ → ℕ → ℕ → List ℕ → Index
@@ -66,15 +67,15 @@ layout big version c u n s =
 
 unfoldable pub index_of : Bool → List ℕ → Check Index
 index_of big s = do
-  _ ← require (leb 16 (length s)) bad_index
+  _ ← require (nat_le 16 (length s)) bad_index
   let version = version_of big s
   let c = number_at big 4 s 4
   let u = number_at big 4 s 8
   let n = number_at big 4 s 12
-  _ ← require (eqb version index2 || eqb version index5) bad_index
-  _ ← require (leb c (columns_most version)) bad_index
-  _ ← require (ltb u n && eqb (least_power n) n) bad_index
-  _ ← require (eqb (length s) (16 + 12 * n + 4 * c + 8 * (u * c))) bad_index
+  _ ← require (version == index2 || version == index5) bad_index
+  _ ← require (nat_le c (columns_most version)) bad_index
+  _ ← require (nat_lt u n && least_power n == n) bad_index
+  _ ← require (length s == 16 + 12 * n + 4 * c + 8 * (u * c)) bad_index
   let i = layout big version c u n s
   _ ← require (all (code_good version) i.codes && distinct i.codes) bad_index
   _ ← require (slots_good u i.identities i.rows) bad_index
@@ -88,13 +89,15 @@ pub record Contribution : Type 0 where
 -- how many columns stand before the one of a code
 unfoldable pub place_of : List ℕ → ℕ → Option ℕ
 place_of [] c = none
-place_of (k ∷ ks) c = elim (eqb k c) [ true ↦ some 0 | false ↦ elim (place_of ks c) [ some n ↦ some (suc n) | none ↦ none ] ]
+place_of (k ∷ ks) c = if k == c
+    then some 0
+    else elim (place_of ks c) [ some n ↦ some (suc n) | none ↦ none ]
 
 unfoldable pub cell_at : Index → ℕ → Option ℕ → Option Contribution
 cell_at i row none = none
 cell_at i row (some k) =
     let n = (row - 1) * length i.codes + k in
-    some (record { offset = get_or i.offsets n 0; size = get_or i.sizes n 0 })
+    some (record { offset = slice_index i.offsets n; size = slice_index i.sizes n })
 
 -- the cell of a row, counted from 1, in a section's column
 unfoldable pub cell_of : Index → ℕ → ℕ → Option Contribution

@@ -1,6 +1,6 @@
 -- Probing and placing, and the number of slots.
 -- Assumes nothing.
-use Rattle.std.specs.Prelude.{true, false, List, [], ◌∷◌, ℕ, zero, suc, ◌+◌, ◌*◌, ◌-◌, ◌/◌, ◌%◌, ◌^◌, eqb, ltb, length, get_or, set}
+use Rattle.std.specs.Prelude.{true, false, List, [], ◌∷◌, ℕ, zero, suc, ◌+◌, ◌*◌, ◌-◌, ◌/◌, ◌%◌, ◌^◌, length, set, ◌==◌, nat_lt, slice_index, if◌then◌else◌}
 use Rattle.std.specs.Int.Bits.{bit_and, bit_or}
 use Rattle.octets.specs.Octets.{zeros}
 use Rattle.index.specs.Index.{Index, least_power}
@@ -23,10 +23,11 @@ pub data Probe : Type 0 where
 unfoldable pub look : ℕ → List ℕ → List ℕ → ℕ → ℕ → ℕ → ℕ → Probe
 look zero rows identities x at by n = absent n
 look (suc k) rows identities x at by n =
-    elim (eqb (get_or rows at 0) 0) [
-      | true ↦ absent (n + 1)
-      | false ↦ elim (eqb (get_or identities at 0) x) [ true ↦ found at (n + 1) | false ↦ look k rows identities x ((at + by) % length rows) by (n + 1) ]
-    ]
+    if slice_index rows at == 0
+    then absent (n + 1)
+    else if slice_index identities at == x
+        then found at (n + 1)
+        else look k rows identities x ((at + by) % length rows) by (n + 1)
 
 unfoldable pub search : List ℕ → List ℕ → ℕ → Probe
 search rows identities x =
@@ -38,7 +39,7 @@ probe i x = search i.rows i.identities x
 
 -- Ticket 3: "the least power of two whose double exceeds 3n, never below 2". The double exceeds 3n where the power exceeds 3n/2 rounded down.
 unfoldable pub slots_for : ℕ → ℕ
-slots_for n = elim (ltb n 2) [ true ↦ 2 | false ↦ least_power (3 * n / 2 + 1) ]
+slots_for n = if nat_lt n 2 then 2 else least_power (3 * n / 2 + 1)
 
 pub record Slots : Type 0 where
   pub identities : List ℕ
@@ -47,7 +48,9 @@ pub record Slots : Type 0 where
 -- the first free slot, within so many steps. Slots exceed units and an odd step visits them all, so that there is one (`always_free` of `proofs/Placing.antt`)
 unfoldable pub free_from : ℕ → List ℕ → ℕ → ℕ → ℕ
 free_from zero rows at by = at
-free_from (suc k) rows at by = elim (eqb (get_or rows at 0) 0) [ true ↦ at | false ↦ free_from k rows ((at + by) % length rows) by ]
+free_from (suc k) rows at by = if slice_index rows at == 0
+    then at
+    else free_from k rows ((at + by) % length rows) by
 
 -- "goes to the first free slot"
 unfoldable pub place : Slots → ℕ → ℕ → Slots

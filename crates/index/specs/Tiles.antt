@@ -1,6 +1,6 @@
 -- The parts of str_offsets that rows name in a package of version 5, and 34: they must tile the section.
 -- Assumes nothing.
-use Rattle.std.specs.Prelude.{Bool, true, false, ◌&&◌, List, [], ◌∷◌, ◌++◌, ℕ, zero, suc, ◌+◌, eqb, leb, length, drop}
+use Rattle.std.specs.Prelude.{Bool, true, false, ◌&&◌, List, [], ◌∷◌, ◌++◌, ℕ, zero, suc, ◌+◌, length, drop, ◌==◌, nat_le, if◌then◌else◌}
 use Rattle.std.proofs.Math.Option.{Option, some, none}
 use Rattle.numbers.specs.Sections.{str_offsets_code}
 use Rattle.numbers.specs.Refusals.{bad_parts}
@@ -11,11 +11,11 @@ use Rattle.index.specs.Rows.{row_numbers}
 
 -- ---- the parts that are named
 unfoldable pub not_empty : Contribution → Bool
-not_empty c = leb 1 c.size
+not_empty c = nat_le 1 c.size
 
 -- by a row
 unfoldable pub named_in : Option Contribution → List Contribution
-named_in (some c) = elim (not_empty c) [ true ↦ c ∷ [] | false ↦ [] ]
+named_in (some c) = if not_empty c then c ∷ [] else []
 named_in none = []
 
 unfoldable pub named_by : Index → List ℕ → List Contribution
@@ -29,12 +29,12 @@ named none = []
 
 -- ---- tiles
 unfoldable pub same_parts : Contribution → Contribution → Bool
-same_parts a b = eqb a.offset b.offset && eqb a.size b.size
+same_parts a b = a.offset == b.offset && a.size == b.size
 
 -- the size of a part that starts at a place
 unfoldable pub starts_at : List Contribution → ℕ → Option ℕ
 starts_at [] at = none
-starts_at (c ∷ cs) at = elim (eqb c.offset at) [ true ↦ some c.size | false ↦ starts_at cs at ]
+starts_at (c ∷ cs) at = if c.offset == at then some c.size else starts_at cs at
 
 -- the parts one behind the other, from a place of the section on, whose rest is s; the first argument bounds the number of steps
 unfoldable pub tiles_from : ℕ → List Contribution → ℕ → List ℕ → Check (List Contribution)
@@ -42,7 +42,7 @@ tiles_from zero cs at s = refuse bad_parts
 tiles_from (suc k) cs at [] = pass []
 tiles_from (suc k) cs at (b ∷ s) =
     elim (starts_at cs at) [
-      | some n ↦ require (leb n (length (b ∷ s))) bad_parts
+      | some n ↦ require (nat_le n (length (b ∷ s))) bad_parts
           >>= λ _. (tiles_from k cs (at + n) (drop n (b ∷ s)) >>= λ ts. pass (record { offset = at; size = n } ∷ ts))
       | none ↦ refuse bad_parts
     ]

@@ -1,6 +1,6 @@
 -- "The index written."
 -- Assumes nothing.
-use Rattle.std.specs.Prelude.{Bool, true, false, List, [], ◌∷◌, ◌++◌, map, ℕ, eqb, length}
+use Rattle.std.specs.Prelude.{Bool, true, false, List, [], ◌∷◌, ◌++◌, map, ℕ, length, ◌==◌, if◌then◌else◌}
 use Rattle.std.proofs.Math.Option.{Option, some, none}
 use Rattle.numbers.specs.Tables.{index2, index5}
 use Rattle.octets.specs.Octets.{bytes_of, numbers_of}
@@ -34,7 +34,9 @@ grid f columns rows = joined (map (λ r. map (λ c. f (r.cells c.section)) colum
 
 unfoldable pub start_bytes : Bool → ℕ → List ℕ
 start_bytes big version =
-    elim (eqb version index5) [ true ↦ bytes_of big 2 index5 ++ bytes_of big 2 0 | false ↦ bytes_of big 4 index2 ]
+    if version == index5
+    then bytes_of big 2 index5 ++ bytes_of big 2 0
+    else bytes_of big 4 index2
 
 unfoldable pub index_with : Bool → ℕ → List Column → List Row → Slots → List ℕ
 index_with big version columns rows slots =

@@ -1,5 +1,5 @@
 // A kept unit's row judged: 15 before 16, over all columns that are needed. Lengths of sections are by their code.
-ghost use Rattle.std.specs.Prelude.{Some, ◌≡◌, ◌||◌, ◌<◌, eqb};
+ghost use Rattle.std.specs.Prelude.{Some, ◌≡◌, ◌||◌, ◌<◌, ◌==◌};
 ghost use Rattle.std.proofs.Math.Option.{none};
 ghost use Rattle.numbers.specs.Sections.{section_codes};
 ghost use Rattle.octets.specs.Lists.{all};
@@ -68,7 +68,7 @@ impl Measures {
     // Whether a part ends in its section, where the section asks for one. It may start anywhere: rows may share parts.
     #[tactic(auto, unfolding(crate::specs::Contributed::good_cell))]
     fn part_needed(&self, length: usize, section: usize, cell: Option<Contribution>) -> bool
-        ensures { result ≡ (eqb «length» 0 || good_cell self.now.width «length» section cell) }
+        ensures { result ≡ («length» == 0 || good_cell self.now.width «length» section cell) }
     {
         if length == 0 {
             return true;

@@ -1,5 +1,5 @@
 // An index read: well formed or not, and the numbers that it holds. Its arrays are not copied: they are read from the section's bytes where they are wanted.
-ghost use Rattle.std.specs.Prelude.{Some, ◌≡◌, ◌+◌, ◌*◌, ◌^◌, ◌<◌, ◌≤◌, length, drop, get_or};
+ghost use Rattle.std.specs.Prelude.{Some, ◌≡◌, ◌+◌, ◌*◌, ◌^◌, ◌<◌, ◌≤◌, length, drop, slice_index};
 ghost use Rattle.std.proofs.Math.Option.{some};
 ghost use Rattle.numbers.specs.Refused.{told};
 ghost use Rattle.octets.specs.Lists.{all, has, distinct, zero_together};
@@ -87,7 +87,7 @@ impl<'a> Index<'a> {
     #[tactic(auto, using(crate::proofs::Heads::identities_here))]
     pub fn identity_at(&self, k: usize) -> u64
         requires { k < length self.now.identities }
-        ensures { result ≡ get_or self.now.identities k 0 }
+        ensures { result ≡ slice_index self.now.identities k }
     {
         octets::u64_at(self.big, self.bytes, FRONT + 8 * k)
     }
@@ -95,7 +95,7 @@ impl<'a> Index<'a> {
     #[tactic(auto, using(crate::proofs::Heads::rows_here))]
     pub fn row_at(&self, k: usize) -> usize
         requires { k < length self.now.rows }
-        ensures { result ≡ get_or self.now.rows k 0 }
+        ensures { result ≡ slice_index self.now.rows k }
     {
         word_at(self.big, self.bytes, FRONT + 8 * self.head.slots, k)
     }
@@ -103,7 +103,7 @@ impl<'a> Index<'a> {
     #[tactic(auto, using(crate::proofs::Heads::codes_here))]
     pub fn code_at(&self, k: usize) -> usize
         requires { k < length self.now.codes }
-        ensures { result ≡ get_or self.now.codes k 0 }
+        ensures { result ≡ slice_index self.now.codes k }
     {
         word_at(self.big, self.bytes, FRONT + 12 * self.head.slots, k)
     }
@@ -112,7 +112,7 @@ impl<'a> Index<'a> {
     #[tactic(auto, using(crate::proofs::Heads::offsets_here))]
     pub fn offset_at(&self, k: usize) -> usize
         requires { k < length self.now.offsets }
-        ensures { result ≡ get_or self.now.offsets k 0 }
+        ensures { result ≡ slice_index self.now.offsets k }
     {
         let start = FRONT + 12 * self.head.slots + 4 * self.head.columns;
         word_at(self.big, self.bytes, start, k)
@@ -121,7 +121,7 @@ impl<'a> Index<'a> {
     #[tactic(auto, using(crate::proofs::Heads::sizes_here))]
     pub fn size_at(&self, k: usize) -> usize
         requires { k < length self.now.sizes }
-        ensures { result ≡ get_or self.now.sizes k 0 }
+        ensures { result ≡ slice_index self.now.sizes k }
     {
         let cells = self.head.units * self.head.columns;
         let start = FRONT + 12 * self.head.slots + 4 * self.head.columns + 4 * cells;

@@ -1,6 +1,6 @@
 -- The cells of a unit by what it contributes, and the bases with one object more.
 -- Assumes nothing.
-use Rattle.std.specs.Prelude.{◌≡◌, true, false, List, ℕ, ◌+◌, ◌^◌, ◌<◌, eqb, get_or, Some, None}
+use Rattle.std.specs.Prelude.{◌≡◌, true, false, List, ℕ, ◌+◌, ◌^◌, ◌<◌, Some, None, ◌==◌, slice_index, if◌then◌else◌}
 use Rattle.std.proofs.Math.Option.{Option, some, none}
 use Rattle.numbers.specs.Sections.{section_codes}
 use Rattle.index.specs.Index.{Contribution}
@@ -11,10 +11,9 @@ use Rattle.index.specs.declared.judging.Contributions.{Contributions}
 -- as `cells` of `package`
 unfoldable pub cells_by : BySection (Option Contribution) → BySection ℕ → ℕ → ℕ → ℕ → BySection (Option Contribution)
 cells_by f bases home at size c =
-    elim (eqb c home) [
-      | true ↦ some (record { offset = at; size = size })
-      | false ↦ elim (f c) [ some k ↦ some (record { offset = bases c + k.offset; size = k.size }) | none ↦ none ]
-    ]
+    if c == home
+    then some (record { offset = at; size = size })
+    else elim (f c) [ some k ↦ some (record { offset = bases c + k.offset; size = k.size }) | none ↦ none ]
 
 -- one cell, where its section of the object begins at a base
 unfoldable pub moved_by : ℕ → Cell → Cell
@@ -23,7 +22,7 @@ moved_by base None = None
 
 -- all cells of a unit
 pub record CellsAfter (k : Contributions) (bases : List ℕ) (r : Contributions) : Type 0 where
-  pub is : (c : ℕ) → c < section_codes → cell_held r c ≡ moved_by (get_or bases c 0) (cell_held k c)
+  pub is : (c : ℕ) → c < section_codes → cell_held r c ≡ moved_by (slice_index bases c) (cell_held k c)
   pub whole : Whole r
 
 -- all cells fit 32 bits
@@ -32,15 +31,15 @@ pub record CellsRoom (k : Contributions) (bases : List ℕ) (home place size : �
   pub home_in : home < section_codes
   pub place_fits : place < 2 ^ 32
   pub size_fits : size < 2 ^ 32
-  pub offsets : (c : ℕ) → c < section_codes → get_or bases c 0 + (stated (cell_held k c)).offset < 2 ^ 32
+  pub offsets : (c : ℕ) → c < section_codes → slice_index bases c + (stated (cell_held k c)).offset < 2 ^ 32
   pub sizes : (c : ℕ) → (stated (cell_held k c)).size < 2 ^ 32
 
 -- the first m bases have grown
 pub record Summed (bases size more : List ℕ) (m : ℕ) : Type 0 where
-  pub is : (c : ℕ) → c < m → get_or more c 0 ≡ get_or bases c 0 + get_or size c 0
+  pub is : (c : ℕ) → c < m → slice_index more c ≡ slice_index bases c + slice_index size c
 
 -- by any contributions that k holds and any bases that are given
 abbrev pub CellsMoved : Contributions → List ℕ → ℕ → ℕ → ℕ → Contributions → Type 0
 CellsMoved k bases home place size r =
-    (f : BySection (Option Contribution)) (base : BySection ℕ) → ContributionsAre k f → ((c : ℕ) → c < section_codes → get_or bases c 0 ≡ base c)
+    (f : BySection (Option Contribution)) (base : BySection ℕ) → ContributionsAre k f → ((c : ℕ) → c < section_codes → slice_index bases c ≡ base c)
     → ContributionsAre r (cells_by f base home place size)

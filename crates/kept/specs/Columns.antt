@@ -1,6 +1,6 @@
 -- The columns of a version, those that are there, and a unit's cells by column.
 -- Assumes nothing.
-use Rattle.std.specs.Prelude.{◌≡◌, Option, Bool, true, false, ◌||◌, List, [], ◌∷◌, map, ℕ, zero, suc, ◌+◌, ◌*◌, ◌^◌, ◌<◌, length, get_or}
+use Rattle.std.specs.Prelude.{◌≡◌, Option, Bool, true, false, ◌||◌, List, [], ◌∷◌, map, ℕ, zero, suc, ◌+◌, ◌*◌, ◌^◌, ◌<◌, length, slice_index, slice_index_or, if◌then◌else◌}
 use Rattle.std.specs.List.{slice_get}
 use Rattle.std.specs.Option.{option_and_then, is_some as there}
 use Rattle.octets.specs.Lists.{any}
@@ -29,10 +29,10 @@ column_cell five cells k = option_and_then (cell_held cells) (section_of five k)
 
 -- column k's section and code, 0 where there is no column k
 unfoldable pub section_at : Bool → ℕ → ℕ
-section_at five k = get_or (map (λ c. c.section) (columns_for five)) k 0
+section_at five k = slice_index (map (λ c. c.section) (columns_for five)) k
 
 unfoldable pub code_at : Bool → ℕ → ℕ
-code_at five k = get_or (map (λ c. c.column) (columns_for five)) k 0
+code_at five k = slice_index (map (λ c. c.column) (columns_for five)) k
 
 -- cells that words can hold
 pub record CellsFit (cells : Contributions) : Type 0 where
@@ -47,7 +47,9 @@ numbers_if false n = []
 
 unfoldable pub codes_from : Bool → List Bool → ℕ → ℕ → List ℕ
 codes_from five has k zero = []
-codes_from five has k (suc n) = elim (get_or has k false) [ true ↦ code_at five k ∷ codes_from five has (k + 1) n | false ↦ codes_from five has (k + 1) n ]
+codes_from five has k (suc n) = if slice_index_or has k false
+    then code_at five k ∷ codes_from five has (k + 1) n
+    else codes_from five has (k + 1) n
 
 unfoldable pub codes_in : Bool → List Bool → List ℕ
 codes_in five has = codes_from five has 0 (length (columns_for five))
@@ -55,12 +57,14 @@ codes_in five has = codes_from five has 0 (length (columns_for five))
 -- numbers of these columns, two words apart from a place on
 unfoldable pub cells_from : List Bool → List ℕ → ℕ → ℕ → ℕ → List ℕ
 cells_from has w at k zero = []
-cells_from has w at k (suc n) = elim (get_or has k false) [ true ↦ get_or w (at + 2 * k) 0 ∷ cells_from has w at (k + 1) n | false ↦ cells_from has w at (k + 1) n ]
+cells_from has w at k (suc n) = if slice_index_or has k false
+    then slice_index w (at + 2 * k) ∷ cells_from has w at (k + 1) n
+    else cells_from has w at (k + 1) n
 
 -- which columns are there
 pub record ColumnsHeld (five : Bool) (has : List Bool) (rs : List Row) : Type 0 where
-  pub there : (k : ℕ) → k < length (columns_for five) → get_or has k false ≡ any (λ r. is_some (r.cells (section_at five k))) rs
+  pub there : (k : ℕ) → k < length (columns_for five) → slice_index_or has k false ≡ any (λ r. is_some (r.cells (section_at five k))) rs
 
 -- the first m columns marked, where they were or where a row has them
 pub record Marked (five : Bool) (has more : List Bool) (cells : Contributions) (m : ℕ) : Type 0 where
-  pub column : (k : ℕ) → k < m → get_or more k false ≡ (get_or has k false || there (column_cell five cells k))
+  pub column : (k : ℕ) → k < m → slice_index_or more k false ≡ (slice_index_or has k false || there (column_cell five cells k))

@@ -1,6 +1,6 @@
 -- Work holds the kept units of the definition.
 -- Assumes nothing.
-use Rattle.std.specs.Prelude.{◌≡◌, Bool, true, false, ◌⊎◌, List, [], ◌∷◌, map, ℕ, ◌+◌, ◌*◌, ◌-◌, ◌<◌, eqb, length, get_or}
+use Rattle.std.specs.Prelude.{◌≡◌, Bool, true, false, ◌⊎◌, List, [], ◌∷◌, map, ℕ, ◌+◌, ◌*◌, ◌-◌, ◌<◌, length, ◌==◌, slice_index, if◌then◌else◌}
 use Rattle.index.specs.Written.{Row, offset_of, size_of}
 use Rattle.package.specs.Filing.{Filed}
 use Rattle.package.specs.Pack.{rows_of, unit_bytes}
@@ -16,8 +16,8 @@ identities_of rs = map (λ r. r.identity) rs
 -- a record is a row of the definition
 pub record RowIs (five : Bool) (k : KeptUnit) (r : Row) : Type 0 where
   pub identity : k.identity ≡ r.identity
-  pub offset : (c : ℕ) → c < length (columns_for five) → get_or k.cells (2 * c) 0 ≡ offset_of (r.cells (section_at five c))
-  pub size : (c : ℕ) → c < length (columns_for five) → get_or k.cells (2 * c + 1) 0 ≡ size_of (r.cells (section_at five c))
+  pub offset : (c : ℕ) → c < length (columns_for five) → slice_index k.cells (2 * c) ≡ offset_of (r.cells (section_at five c))
+  pub size : (c : ℕ) → c < length (columns_for five) → slice_index k.cells (2 * c + 1) ≡ size_of (r.cells (section_at five c))
 
 pub data RowsAre (five : Bool) : List KeptUnit → List Row → Type 0 where
   none : RowsAre five [] []
@@ -31,7 +31,7 @@ pub record TableHeld (five : Bool) (w : List ℕ) (n : ℕ) (slots : List ℕ) (
   pub seen : SeenHeld w slots n (identities_of rs)
   pub columns : ColumnsHeld five t.has rs
   -- each slot that is used names a record of the table
-  pub names : (k : ℕ) → (get_or slots k 0 ≡ 0 → ⊥) → (record_at w (get_or slots k 0 - 1)).table ≡ table
+  pub names : (k : ℕ) → (slice_index slots k ≡ 0 → ⊥) → (record_at w (slice_index slots k - 1)).table ≡ table
 
 -- a record is a kept unit of the definition
 pub record RecordIs (b : List ℕ) (k : KeptUnit) (u : Filed) : Type 0 where
@@ -45,11 +45,11 @@ pub data RecordsAre (b : List ℕ) : List KeptUnit → List Filed → Type 0 whe
 
 -- of two the one, or else the other
 unfoldable pub picked : {A : Type 0} → Bool → A → A → A
-picked one a b = elim one [ true ↦ a | false ↦ b ]
+picked one a b = if one then a else b
 
 -- what there is of each table and section: the first for number 1, else the second
 unfoldable pub pick : {A : Type 0} → ℕ → A → A → A
-pick k a b = elim (eqb k 1) [ true ↦ a | false ↦ b ]
+pick k a b = if k == 1 then a else b
 
 -- the units by value with one more: its table is t behind it, and its section has so many bytes
 abbrev pub with_unit : Units → ℕ → Table → ℕ → ℕ → Units

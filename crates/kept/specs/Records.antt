@@ -1,6 +1,6 @@
 -- One record for each kept unit, in words one behind the other.
 -- Assumes nothing.
-use Rattle.std.specs.Prelude.{Bool, true, false, List, [], ◌∷◌, map, ℕ, zero, suc, ◌+◌, ◌*◌, ◌-◌, ◌/◌, ◌%◌, ◌^◌, ◌<◌, ◌≤◌, eqb, length, get_or}
+use Rattle.std.specs.Prelude.{Bool, true, false, List, [], ◌∷◌, map, ℕ, zero, suc, ◌+◌, ◌*◌, ◌-◌, ◌/◌, ◌%◌, ◌^◌, ◌<◌, ◌≤◌, length, ◌==◌, slice_index, if◌then◌else◌}
 use Rattle.numbers.specs.Tables.{columns2}
 use Rattle.octets.specs.Octets.{part}
 use Rattle.octets.specs.Lists.{joined, those}
@@ -56,12 +56,12 @@ pub record UnitFits (u : UnitHead) : Type 0 where
 unfoldable pub record_at : List ℕ → ℕ → KeptUnit
 record_at w i =
     record {
-      table = get_or w (record_words * i) 0;
-      row = get_or w (record_words * i + 1) 0;
-      identity = get_or w (record_words * i + 2) 0 + 2 ^ 32 * get_or w (record_words * i + 3) 0;
-      home = get_or w (record_words * i + 4) 0;
-      start = get_or w (record_words * i + 5) 0;
-      size = get_or w (record_words * i + 6) 0;
+      table = slice_index w (record_words * i);
+      row = slice_index w (record_words * i + 1);
+      identity = slice_index w (record_words * i + 2) + 2 ^ 32 * slice_index w (record_words * i + 3);
+      home = slice_index w (record_words * i + 4);
+      start = slice_index w (record_words * i + 5);
+      size = slice_index w (record_words * i + 6);
       cells = part w (record_words * i + cells_place) cell_words;
     }
 
@@ -72,10 +72,10 @@ records_from w i (suc n) = record_at w i ∷ records_from w (i + 1) n
 
 -- ---- the one list, filtered
 unfoldable pub in_table : ℕ → KeptUnit → Bool
-in_table t k = eqb k.table t
+in_table t k = k.table == t
 
 unfoldable pub in_home : ℕ → KeptUnit → Bool
-in_home h k = eqb k.home h
+in_home h k = k.home == h
 
 -- the records of a table among n, and their identities
 unfoldable pub of_table : List ℕ → ℕ → ℕ → List KeptUnit
@@ -97,7 +97,7 @@ pub record UnitsInside (b w : List ℕ) (n : ℕ) : Type 0 where
 
 -- ---- by number: records count from 1, and 0 names none
 unfoldable pub identity_for : List ℕ → ℕ → ℕ
-identity_for w number = elim (eqb number 0) [ true ↦ 0 | false ↦ (record_at w (number - 1)).identity ]
+identity_for w number = if number == 0 then 0 else (record_at w (number - 1)).identity
 
 unfoldable pub row_for : List ℕ → ℕ → ℕ
-row_for w number = elim (eqb number 0) [ true ↦ 0 | false ↦ (record_at w (number - 1)).row ]
+row_for w number = if number == 0 then 0 else (record_at w (number - 1)).row

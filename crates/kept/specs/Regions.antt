@@ -6,7 +6,7 @@
 -- The table of the strings has the front of its region, as many words as its room asks for: a bundle has far fewer entries than words, so that all it uses stands
 -- close together.
 -- Assumes nothing.
-use Rattle.std.specs.Prelude.{◌≡◌, true, false, ◌⊎◌, List, ℕ, ◌+◌, ◌*◌, ◌≤◌, eqb, length, take}
+use Rattle.std.specs.Prelude.{◌≡◌, true, false, ◌⊎◌, List, ℕ, ◌+◌, ◌*◌, ◌≤◌, length, take, ◌==◌, if◌then◌else◌}
 use Rattle.numbers.specs.Limits.{string_words}
 use Rattle.octets.specs.Octets.{part}
 use Rattle.numbers.specs.Tables.{compilation_table}
@@ -26,7 +26,7 @@ abbrev pub type_slots : Layout
 type_slots = record { start = 6; words = 1 }
 
 unfoldable pub slots_region : ℕ → Layout
-slots_region table = elim (eqb table compilation_table) [ true ↦ compilation_slots | false ↦ type_slots ]
+slots_region table = if table == compilation_table then compilation_slots else type_slots
 
 abbrev pub strings_region : Layout
 strings_region = record { start = 7; words = string_words }

@@ -1,6 +1,6 @@
 -- Slots of record numbers, and the definition's slots of row numbers.
 -- Assumes nothing.
-use Rattle.std.specs.Prelude.{◌≡◌, true, List, [], ◌∷◌, map, ℕ, ◌+◌, ◌*◌, ◌/◌, ◌<◌, ◌≤◌, length, get_or, Result, Ok, Err}
+use Rattle.std.specs.Prelude.{◌≡◌, true, List, [], ◌∷◌, map, ℕ, ◌+◌, ◌*◌, ◌/◌, ◌<◌, ◌≤◌, length, Result, Ok, Err, slice_index}
 use Rattle.octets.specs.Octets.{part, placed}
 use Rattle.octets.specs.Lists.{distinct}
 use Rattle.numbers.specs.Limits.{bundle_limit, work_for_word}
@@ -17,7 +17,7 @@ seen_slots n = least_power (n / least_unit + 2)
 
 -- each number in the slots is that of one of n records
 pub record Within (slots : List ℕ) (n : ℕ) : Type 0 where
-  pub within : (k : ℕ) → get_or slots k 0 ≤ n
+  pub within : (k : ℕ) → slice_index slots k ≤ n
 
 -- ---- the walk
 unfoldable pub free_for : List ℕ → ℕ → ℕ
@@ -25,7 +25,7 @@ free_for slots x = free_from (length slots) slots (first_slot x (length slots)) 
 
 -- where a walk ends: at the number of a record of the identity, or else at a free slot
 unfoldable pub sought_as : List ℕ → Probe → ℕ → Result ℕ ℕ
-sought_as slots (found at n) free = Ok (get_or slots at 0)
+sought_as slots (found at n) free = Ok (slice_index slots at)
 sought_as slots (absent n) free = Err free
 
 -- w are the records, and the identity of a slot is that of its record
@@ -38,7 +38,7 @@ pub record SeenHeld (w slots : List ℕ) (n : ℕ) (xs : List ℕ) : Type 0 wher
   pub placed : Slots
   pub made : place_all (unused (length slots)) 1 xs ≡ placed
   pub within : Within slots n
-  pub used : (k : ℕ) → row_for w (get_or slots k 0) ≡ 0 → get_or slots k 0 ≡ 0
+  pub used : (k : ℕ) → row_for w (slice_index slots k) ≡ 0 → slice_index slots k ≡ 0
   pub rows : map (row_for w) slots ≡ placed.rows
   pub identities : map (identity_for w) slots ≡ placed.identities
 

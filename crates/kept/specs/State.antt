@@ -1,6 +1,6 @@
 -- Work and what is by value hold the units that are filed. Nothing here need be believed.
 -- Assumes nothing.
-use Rattle.std.specs.Prelude.{◌≡◌, Bool, List, [], ◌∷◌, ℕ, ◌+◌, ◌*◌, ◌^◌, ◌<◌, ◌≤◌, length, get_or}
+use Rattle.std.specs.Prelude.{◌≡◌, Bool, List, [], ◌∷◌, ℕ, ◌+◌, ◌*◌, ◌^◌, ◌<◌, ◌≤◌, length, slice_index}
 use Rattle.numbers.specs.Limits.{bundle_limit, work_for_word, least_unit_bytes}
 use Rattle.numbers.specs.Sections.{section_codes}
 use Rattle.index.specs.Rows.{BySection}
@@ -40,7 +40,7 @@ pub record Held (five : Bool) (b : List ℕ) (n place : ℕ) (w : List ℕ) (st 
   -- a unit takes at least 20 bytes of the bundle
   pub spent : least_unit_bytes * length us ≤ place
   pub held : UnitsHeld five b (region w n records_region) (λ t. slots_in w n t (seen_slots n)) st.units (kept us)
-  pub based : (c : ℕ) → c < section_codes → get_or st.bases c 0 ≡ bases c
+  pub based : (c : ℕ) → c < section_codes → slice_index st.bases c ≡ bases c
   -- so that all cells fit 32 bits: what was read lies before the place
   pub low : (c : ℕ) → bases c ≤ place
   pub units_low : (h : ℕ) → length (unit_bytes (kept us) h) ≤ place

@@ -1,5 +1,5 @@
 // What is known of the kept units by value: asked by the number of a table or of a section, and with one unit more.
-ghost use Rattle.std.specs.Prelude.{◌≡◌, ◌<◌, ◌^◌, eqb};
+ghost use Rattle.std.specs.Prelude.{◌≡◌, ◌<◌, ◌^◌, ◌==◌};
 ghost use Rattle.kept.specs.Held.{pick, picked, with_unit};
 
 use crate::regions::COMPILATION;
@@ -11,7 +11,7 @@ use numbers::sections::INFO;
 // What there is of the kind that has a number, or else of the other.
 #[tactic(auto, unfolding(crate::specs::Held::picked))]
 fn pick<T: Copy>(number: usize, kind: usize, its: T, other: T) -> T
-    ensures { result ≡ picked (eqb number kind) its other }
+    ensures { result ≡ picked (number == kind) its other }
 {
     if number == kind { its } else { other }
 }

@@ -1,5 +1,5 @@
 // What a unit has of each section: where it lies in the package's sections. And the bases there, which grow with each object.
-ghost use Rattle.std.specs.Prelude.{◌≡◌, ℕ, ◌+◌, ◌<◌, ◌^◌, length, get_or};
+ghost use Rattle.std.specs.Prelude.{◌≡◌, ℕ, ◌+◌, ◌<◌, ◌^◌, length, slice_index};
 ghost use Rattle.numbers.specs.Sections.{section_codes};
 ghost use Rattle.index.specs.Contributed.{cell_held, stated};
 ghost use Rattle.kept.specs.Columns.{CellsFit};
@@ -12,7 +12,7 @@ use numbers::sections::CODES;
 // The same cells in the package's sections, where the sections of the unit's object begin at the bases.
 #[tactic(auto, unfolding(crate::specs::Cells::moved_by))]
 fn moved(k: Contributions, bases: [usize; CODES]) -> Contributions
-    requires { (c : ℕ) → c < section_codes → get_or bases c 0 + (stated (cell_held k c)).offset < 2 ^ 32 }
+    requires { (c : ℕ) → c < section_codes → slice_index bases c + (stated (cell_held k c)).offset < 2 ^ 32 }
     ensures { CellsAfter k bases result }
 {
     let mut cells = k;
@@ -49,7 +49,7 @@ pub fn cells_of(
 
 // The bases with one object more, whose sections have these sizes.
 pub fn grown(mut bases: [usize; CODES], size: [usize; CODES]) -> [usize; CODES]
-    requires { (c : ℕ) → c < section_codes → get_or bases c 0 + get_or size c 0 < 2 ^ 64 }
+    requires { (c : ℕ) → c < section_codes → slice_index bases c + slice_index size c < 2 ^ 64 }
     ensures { Summed bases size result section_codes }
 {
     for c in 0..CODES {

@@ -1,6 +1,6 @@
 -- What so many bytes say, which only ties code to `groups`: nothing here need be believed.
 -- Assumes nothing.
-use Rattle.std.specs.Prelude.{true, false, List, [], ◌∷◌, ℕ, zero, suc, ◌+◌, ◌*◌, ◌-◌, ltb}
+use Rattle.std.specs.Prelude.{true, false, List, [], ◌∷◌, ℕ, zero, suc, ◌+◌, ◌*◌, ◌-◌, nat_lt, if◌then◌else◌}
 use Rattle.leb128.specs.declared.Groups.{Groups}
 use Rattle.leb128.specs.declared.Groups.TheVariants.{Ended, Open, Cut}
 
@@ -14,4 +14,4 @@ before b Cut = Cut
 unfoldable pub groups_read : ℕ → List ℕ → Groups
 groups_read zero s = Open 0
 groups_read (suc k) [] = Cut
-groups_read (suc k) (b ∷ s) = elim (ltb b 128) [ true ↦ Ended b 1 | false ↦ before b (groups_read k s) ]
+groups_read (suc k) (b ∷ s) = if nat_lt b 128 then Ended b 1 else before b (groups_read k s)

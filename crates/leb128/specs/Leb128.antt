@@ -1,7 +1,7 @@
 -- Document 01, "Units and their identities": a tag, name or form takes at most 3 bytes and is at most 65,535; any other number takes at most
 -- 10 bytes and 64 bits, signed ones for a signed form. A padded number counts by its value. A reader gives the value and the bytes taken.
 -- Assumes nothing.
-use Rattle.std.specs.Prelude.{true, false, ◌||◌, List, [], ◌∷◌, ℕ, zero, suc, ◌+◌, ◌*◌, ◌-◌, ◌^◌, leb, ltb}
+use Rattle.std.specs.Prelude.{true, false, ◌||◌, List, [], ◌∷◌, ℕ, zero, suc, ◌+◌, ◌*◌, ◌-◌, ◌^◌, nat_le, nat_lt, if◌then◌else◌}
 use Rattle.numbers.specs.Refusals.{no_identity}
 use Rattle.octets.specs.Checked.{Check, pass, refuse, ◌>>=◌, require}
 
@@ -10,28 +10,27 @@ unfoldable pub groups : ℕ → List ℕ → Check (ℕ × ℕ)
 groups zero s = refuse no_identity
 groups (suc k) [] = refuse no_identity
 groups (suc k) (b ∷ s) =
-    elim (ltb b 128) [
-      | true ↦ pass (b, 1)
-      | false ↦ groups k s >>= λ r. pass (b - 128 + 128 * r.0, suc r.1)
-    ]
+    if nat_lt b 128
+    then pass (b, 1)
+    else groups k s >>= λ r. pass (b - 128 + 128 * r.0, suc r.1)
 
 -- a tag, a name or a form
 unfoldable pub short : List ℕ → Check (ℕ × ℕ)
 short s = do
   r ← groups 3 s
-  _ ← require (leb r.0 65535) no_identity
+  _ ← require (nat_le r.0 65535) no_identity
   pass r
 
 -- an unsigned number
 unfoldable pub unsigned : List ℕ → Check (ℕ × ℕ)
 unsigned s = do
   r ← groups 10 s
-  _ ← require (ltb r.0 (2 ^ 64)) no_identity
+  _ ← require (nat_lt r.0 (2 ^ 64)) no_identity
   pass r
 
 -- how many bytes a signed number takes. Only ten bytes can leave 64 bits: their 70 bits then are neither below 2^63 nor among the last 2^63
 unfoldable pub signed_size : List ℕ → Check ℕ
 signed_size s = do
   r ← groups 10 s
-  _ ← require (ltb r.0 (2 ^ 63) || leb (2 ^ 70 - 2 ^ 63) r.0) no_identity
+  _ ← require (nat_lt r.0 (2 ^ 63) || nat_le (2 ^ 70 - 2 ^ 63) r.0) no_identity
   pass r.1

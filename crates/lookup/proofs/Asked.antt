@@ -16,6 +16,7 @@ use Rattle.bundle.proofs.Sections.{none_counted, counted_none}
 use Rattle.index.specs.Index.{Index, Contribution}
 use Rattle.lookup.specs.Lookup.{Package, has_version, version_good, index_for, place_in}
 use Rattle.lookup.specs.Answers.{indexed, head_in, index_has, version_by, table_index, index_code}
+use Rattle.std.specs.Prelude.{if◌then◌else◌}
 
 -- ---- 22
 pub has_indexed : (v : ℕ) (o : Option Index) → index_has v (indexed o) ≡ has_version v o
@@ -32,7 +33,7 @@ pub code_lt : (table : ℕ) → index_code table < 14
 unfolding index_code
 code_lt table = go (eqb table 1)
   where
-    go : (t : Bool) → elim t [ true ↦ 12 | false ↦ 13 ] < 14
+    go : (t : Bool) → (if t then 12 else 13) < 14
     go true = omega arith
     go false = omega arith
 
@@ -40,7 +41,7 @@ pub table_by : (table : ℕ) (k : Package) → table_index (head_in k) table ≡
 unfolding table_index index_for head_in
 table_by table k = go (eqb table 1)
   where
-    go : (t : Bool) → elim t [ true ↦ indexed k.cu_index | false ↦ indexed k.tu_index ] ≡ indexed (elim t [ true ↦ k.cu_index | false ↦ k.tu_index ])
+    go : (t : Bool) → (if t then indexed k.cu_index else indexed k.tu_index) ≡ indexed (if t then k.cu_index else k.tu_index)
     go true = refl
     go false = refl
 

@@ -8,7 +8,7 @@ use native.Mathlib.Omega.{arith}
 use lib.Dec.{eqb}
 use lib.ListN.{length}
 use borrow.Author.Tests.{eqb-true}
-use Rattle.std.specs.Prelude.{Result, Ok, Err, Some, None}
+use Rattle.std.specs.Prelude.{Result, Ok, Err, Some, None, if◌then◌else◌}
 use Rattle.numbers.specs.Refused.{told, number_of}
 use Rattle.numbers.specs.Tabled.{table_named, table_number}
 use Rattle.numbers.specs.declared.refusals.Refusal.{Refusal}
@@ -40,7 +40,7 @@ table_not : (n : ℕ) (r : Refusal) → Err r ≡ table_named n → (BadQuestion
 unfolding table_good
 table_not n r e = go (eqb n 1) (eqb n 2) e
   where
-    go : (s t : Bool) → ◌≡◌ {A = Result Table Refusal} (Err r) (elim s [ true ↦ Ok Compilation | false ↦ elim t [ true ↦ Ok «Type» | false ↦ Err BadQuestion ] ]) → (BadQuestion ≡ r) × ((s || t) ≡ false)
+    go : (s t : Bool) → ◌≡◌ {A = Result Table Refusal} (Err r) (if s then Ok Compilation else if t then Ok «Type» else Err BadQuestion) → (BadQuestion ≡ r) × ((s || t) ≡ false)
     go true t h = absurd (let z : ◌≡◌ {A = ℕ} 0 1 = cc in omega arith)
     go false true h = absurd (let z : ◌≡◌ {A = ℕ} 0 1 = cc in omega arith)
     go false false h = (cc, refl)
@@ -49,7 +49,7 @@ table_is : (n : ℕ) (table : Table) → Ok table ≡ table_named n → (n ≡ t
 unfolding table_good
 table_is n table e = go (eqb n 1) (eqb n 2) refl refl e
   where
-    go : (s t : Bool) → eqb n 1 ≡ s → eqb n 2 ≡ t → ◌≡◌ {A = Result Table Refusal} (Ok table) (elim s [ true ↦ Ok Compilation | false ↦ elim t [ true ↦ Ok «Type» | false ↦ Err BadQuestion ] ])
+    go : (s t : Bool) → eqb n 1 ≡ s → eqb n 2 ≡ t → ◌≡◌ {A = Result Table Refusal} (Ok table) (if s then Ok Compilation else if t then Ok «Type» else Err BadQuestion)
         → (n ≡ table_number table) × ((s || t) ≡ true)
     go true t f g h = let z : Compilation ≡ table = cc in (rw (← z) (eqb-true n 1 f), refl)
     go false true f g h = let z : «Type» ≡ table = cc in (rw (← z) (eqb-true n 2 g), refl)

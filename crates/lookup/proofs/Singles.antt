@@ -14,6 +14,7 @@ use Rattle.bundle.specs.Scan.{numbered, by_code}
 use Rattle.bundle.proofs.Scanned.{by_code_at}
 use Rattle.lookup.specs.Lookup.{codes}
 use Rattle.lookup.specs.Answers.{single}
+use Rattle.std.specs.Prelude.{if◌then◌else◌}
 
 pub codes_at : (i : ℕ) → i < 13 → get_or codes i 0 ≡ i + 1
 unfolding codes by_code numbered
@@ -28,7 +29,7 @@ unfolding all
 each f [] = refl
 each f (x ∷ xs) = go (f x) (each f xs)
   where
-    go : (t : Bool) → list_all f xs ≡ all f xs → (t && list_all f xs) ≡ elim t [ true ↦ all f xs | false ↦ false ]
+    go : (t : Bool) → list_all f xs ≡ all f xs → (t && list_all f xs) ≡ (if t then all f xs else false)
     go true e = e
     go false e = refl
 

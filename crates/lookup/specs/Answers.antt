@@ -1,6 +1,6 @@
 -- What the code holds of a package, which need not be believed; and at the end the answers as callers are told them.
 -- Assumes nothing.
-use Rattle.std.specs.Prelude.{◌≡◌, Bool, true, false, ◌&&◌, ◌||◌, List, [], ℕ, ◌+◌, ◌≤◌, ◌<◌, eqb, nat_le, length, drop, get_or, Some, None, Result, Ok, Err}
+use Rattle.std.specs.Prelude.{◌≡◌, Bool, true, false, ◌&&◌, ◌||◌, List, [], ℕ, ◌+◌, ◌≤◌, ◌<◌, nat_le, length, drop, Some, None, Result, Ok, Err, ◌==◌, if◌then◌else◌}
 use Rattle.std.specs.Prelude as code
 use Rattle.std.specs.List.{list_all}
 use Rattle.std.proofs.Math.Option.{Option, some, none}
@@ -31,7 +31,7 @@ use Rattle.strings.specs.declared.table.Place.{Place as PlaceHeld}
 
 -- ---- a package opened
 unfoldable pub coded : Encoding → ObjectEncoding
-coded e = record { big = e.big; five = eqb e.version dwarf5; wide = eqb e.width 8; long = eqb e.address 8 }
+coded e = record { big = e.big; five = e.version == dwarf5; wide = e.width == 8; long = e.address == 8 }
 
 unfoldable pub indexed : Option Index → code.Option IndexHead
 indexed (some i) = Some (head_of i)
@@ -54,7 +54,9 @@ single counts = list_all (λ n. nat_le n 1) counts
 
 -- an index of which there are so many
 unfoldable pub index_by : ℕ → Check Index → Check (code.Option IndexHead)
-index_by count m = elim (eqb count 0) [ true ↦ pass None | false ↦ mapped (λ i. Some (head_of i)) (renumbered bad_package m) ]
+index_by count m = if count == 0
+    then pass None
+    else mapped (λ i. Some (head_of i)) (renumbered bad_package m)
 
 -- the package is its one object, of that word and those sections
 pub record Alone (p : List ℕ) (big : Bool) (word : ℕ) (sections : Scan) : Type 0 where
@@ -83,22 +85,22 @@ pub record Opened (p : List ℕ) (h : PackageHead) : Type 0 where
 
 -- 22, by the indexes that are there
 abbrev pub index_has : ℕ → code.Option IndexHead → Bool
-index_has version (Some h) = eqb h.version version
+index_has version (Some h) = h.version == version
 index_has version None = true
 
 abbrev pub version_by : PackageHead → ℕ → Bool
-version_by h version = (eqb version index2 || eqb version index5) && index_has version h.cu && index_has version h.tu
+version_by h version = (version == index2 || version == index5) && index_has version h.cu && index_has version h.tu
 
 -- the index of a table, and the section that it lies in
 unfoldable pub table_index : PackageHead → ℕ → code.Option IndexHead
-table_index h table = elim (eqb table compilation_table) [ true ↦ h.cu | false ↦ h.tu ]
+table_index h table = if table == compilation_table then h.cu else h.tu
 
 unfoldable pub index_code : ℕ → ℕ
-index_code table = elim (eqb table compilation_table) [ true ↦ cu_index_code | false ↦ tu_index_code ]
+index_code table = if table == compilation_table then cu_index_code else tu_index_code
 
 -- ---- the parts of the definitions
 abbrev pub entries_from : ℕ → ℕ → ℕ
-entries_from version width = elim (eqb version index5) [ true ↦ width + width | false ↦ 0 ]
+entries_from version width = if version == index5 then width + width else 0
 
 -- the string at an offset of str
 unfoldable pub text_place : List ℕ → Package → ℕ → Check Place

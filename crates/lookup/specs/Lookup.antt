@@ -1,6 +1,6 @@
 -- Looking up a part or a string in a package, which may be any bytes.
 -- Assumes nothing.
-use Rattle.std.specs.Prelude.{Bool, true, false, ◌&&◌, ◌||◌, List, [], ◌∷◌, ℕ, ◌+◌, ◌*◌, ◌-◌, ◌/◌, eqb, leb, ltb, length, get_or}
+use Rattle.std.specs.Prelude.{Bool, true, false, ◌&&◌, ◌||◌, List, [], ◌∷◌, ℕ, ◌+◌, ◌*◌, ◌-◌, ◌/◌, length, ◌==◌, nat_le, nat_lt, slice_index, if◌then◌else◌}
 use Rattle.std.proofs.Math.Option.{Option, some, none}
 use Rattle.numbers.specs.Tables.{compilation_table, type_table, index2, index5}
 use Rattle.numbers.specs.Limits.{package_limit}
@@ -44,7 +44,7 @@ unfoldable pub object_judged : Bool → List ℕ → Object → Check Package
 object_judged big p o = do
   let e = encoding_of big o.word
   _ ← require (encoding_good e) bad_package
-  _ ← require (all (λ c. leb (count o.parts c) 1) codes) bad_package
+  _ ← require (all (λ c. nat_le (count o.parts c) 1) codes) bad_package
   cu ← package_index big p o.parts cu_index_code
   tu ← package_index big p o.parts tu_index_code
   pass (record { encoding = e; parts = o.parts; cu_index = cu; tu_index = tu })
@@ -64,18 +64,18 @@ package_of p = do
 
 -- 22: the version given is 2 or 5, and that of each index present
 unfoldable pub has_version : ℕ → Option Index → Bool
-has_version version (some i) = eqb i.version version
+has_version version (some i) = i.version == version
 has_version version none = true
 
 unfoldable pub version_good : Package → ℕ → Bool
-version_good k version = (eqb version index2 || eqb version index5) && has_version version k.cu_index && has_version version k.tu_index
+version_good k version = (version == index2 || version == index5) && has_version version k.cu_index && has_version version k.tu_index
 
 -- 23: table 1, compilation, or 2, type
 unfoldable pub table_good : ℕ → Bool
-table_good table = eqb table compilation_table || eqb table type_table
+table_good table = table == compilation_table || table == type_table
 
 unfoldable pub index_for : Package → ℕ → Option Index
-index_for k table = elim (eqb table compilation_table) [ true ↦ k.cu_index | false ↦ k.tu_index ]
+index_for k table = if table == compilation_table then k.cu_index else k.tu_index
 
 -- a place in the package
 pub record Place : Type 0 where
@@ -86,7 +86,7 @@ pub record Place : Type 0 where
 unfoldable pub place_in : Option Part → Contribution → Check Place
 place_in none c = refuse part_outside
 place_in (some s) c = do
-  _ ← require (leb (c.offset + c.size) s.size) part_outside
+  _ ← require (nat_le (c.offset + c.size) s.size) part_outside
   pass (record { start = s.start + c.offset; size = c.size })
 
 -- "a missing column an empty part"
@@ -100,7 +100,7 @@ part_place k i row code = cell_place k.parts code (cell_of i row code)
 -- what is found at the row where a search ends
 unfoldable pub at_row : Index → Probe → (ℕ → Check Place) → Check Found
 at_row i (nowhere looks) answer = pass (absent looks)
-at_row i (at slot looks) answer = answer (get_or i.rows slot 0) >>= λ p. pass (part p.start p.size looks)
+at_row i (at slot looks) answer = answer (slice_index i.rows slot) >>= λ p. pass (part p.start p.size looks)
 
 -- "A missing index gives absent after 0 looks"
 unfoldable pub in_table : Option Index → ℕ → (Index → ℕ → Check Place) → Check Found
@@ -116,7 +116,7 @@ unfoldable pub part_judged : List ℕ → ℕ → ℕ → ℕ → ℕ → Check 
 part_judged p version table identity code = do
   k ← package_of p
   _ ← require (version_good k version) other_version
-  _ ← require (table_good table && leb info_code code && leb code last_shared) bad_question
+  _ ← require (table_good table && nat_le info_code code && nat_le code last_shared) bad_question
   in_table (index_for k table) identity (λ i row. part_place k i row code)
 
 unfoldable pub looked_up : List ℕ → ℕ → ℕ → ℕ → ℕ → Found
@@ -125,7 +125,7 @@ looked_up p version table identity code = answered (part_judged p version table 
 -- ---- strings
 -- "in version 5 entries start behind the header's 8 or 16 bytes, which are not judged"
 unfoldable pub entries_start : ℕ → Encoding → ℕ
-entries_start version e = elim (eqb version index5) [ true ↦ e.width + e.width | false ↦ 0 ]
+entries_start version e = if version == index5 then e.width + e.width else 0
 
 unfoldable pub start_of : Option Part → ℕ
 start_of (some s) = s.start
@@ -136,7 +136,7 @@ unfoldable pub string_place : List ℕ → Package → ℕ → ℕ → Place →
 string_place p k version entry s = do
   let width = k.encoding.width
   let first = entries_start version k.encoding
-  _ ← require (ltb entry ((s.size - first) / width)) no_entry
+  _ ← require (nat_lt entry ((s.size - first) / width)) no_entry
   let offset = number_at k.encoding.big width p (s.start + first + entry * width)
   string ← string_at no_string_there (body p k.parts str_code) offset
   pass (record { start = start_of (first_part k.parts str_code) + offset; size = length string })

@@ -1,5 +1,5 @@
 // Refusal 21: a package is opened once, and the lookups go by what was found.
-ghost use Rattle.std.specs.Prelude.{◌≡◌, ◌+◌, ◌≤◌, ◌<◌, length, get_or};
+ghost use Rattle.std.specs.Prelude.{◌≡◌, ◌+◌, ◌≤◌, ◌<◌, length, slice_index};
 ghost use Rattle.numbers.specs.Sections.{section_codes};
 ghost use Rattle.numbers.specs.Refused.{told};
 ghost use Rattle.octets.specs.Octets.{part};
@@ -56,8 +56,8 @@ fn read_index(
     sections: &Scan,
     code: usize,
 ) -> Result<Option<IndexHead>, Refusal>
-    requires { (code < section_codes) × (get_or sections.now.start code 0 + get_or sections.now.size code 0 ≤ length «package».now) }
-    ensures { told result ≡ index_by (get_or sections.now.count code 0) (index_of big (part «package».now (get_or sections.now.start code 0) (get_or sections.now.size code 0))) }
+    requires { (code < section_codes) × (slice_index sections.now.start code + slice_index sections.now.size code ≤ length «package».now) }
+    ensures { told result ≡ index_by (slice_index sections.now.count code) (index_of big (part «package».now (slice_index sections.now.start code) (slice_index sections.now.size code))) }
 {
     if sections.count[code] == 0 {
         return Ok(None);

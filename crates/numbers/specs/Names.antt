@@ -1,7 +1,7 @@
 -- The names of the sections in an object file, in ASCII bytes: `.debug_`, document 01's word and `.dwo`, but for the two indexes, which end in their word.
 -- One table, which the ELF files read and written and the printed tables use.
 -- Assumes nothing.
-use Rattle.std.specs.Prelude.{List, [], ◌∷◌, ◌++◌, map, ℕ, get_or}
+use Rattle.std.specs.Prelude.{List, [], ◌∷◌, ◌++◌, map, ℕ, slice_index_or}
 
 -- the words of codes 1 to 11
 unfoldable pub dwo_words : List (List ℕ)
@@ -45,4 +45,4 @@ unfoldable pub section_names : List (List ℕ)
 section_names = [] ∷ (map dwo_name dwo_words ++ map index_name index_words)
 
 unfoldable pub section_name : ℕ → List ℕ
-section_name code = get_or section_names code []
+section_name code = slice_index_or section_names code []

@@ -1,6 +1,6 @@
 -- The two tables of units, as the code has them.
 -- Assumes nothing.
-use Rattle.std.specs.Prelude.{true, false, ℕ, eqb, Result, Ok, Err}
+use Rattle.std.specs.Prelude.{true, false, ℕ, Result, Ok, Err, ◌==◌, if◌then◌else◌}
 use Rattle.numbers.specs.Tables.{compilation_table, type_table}
 use Rattle.numbers.specs.declared.refusals.Refusal.{Refusal}
 use Rattle.numbers.specs.declared.refusals.Refusal.TheVariants.{BadQuestion}
@@ -14,5 +14,6 @@ table_number «Type» = type_table
 -- the table of a number, if it is one
 abbrev pub table_named : ℕ → Result Table Refusal
 table_named n =
-    elim (eqb n compilation_table)
-    [ true ↦ Ok Compilation | false ↦ elim (eqb n type_table) [ true ↦ Ok «Type» | false ↦ Err BadQuestion ] ]
+    if n == compilation_table
+    then Ok Compilation
+    else if n == type_table then Ok «Type» else Err BadQuestion

@@ -8,6 +8,7 @@ use lib.Dec.{leb}
 use borrow.Author.Tests.{leb-true}
 use Rattle.octets.specs.Checked.{Check, pass, refuse, ◌>>=◌, require, mapped}
 use Rattle.octets.proofs.Checks.{pass_refuse, refuse_inj, bind_refuse, and_left, and_right}
+use Rattle.std.specs.Prelude.{if◌then◌else◌}
 
 pub record Only {A : Type 0} (k : ℕ) (m : Check A) : Type 0 where
   pub is : (n : ℕ) → m ≡ refuse n → n ≡ k
@@ -58,7 +59,7 @@ module _ {first last : ℕ} where
   }
 
   -- a choice by a test
-  pub between_choice : {A : Type 0} (t : Bool) (a b : Check A) → Between first last a → Between first last b → Between {A = A} first last (elim t [ true ↦ a | false ↦ b ])
+  pub between_choice : {A : Type 0} (t : Bool) (a b : Check A) → Between first last a → Between first last b → Between {A = A} first last (if t then a else b)
   between_choice true a b p q = p
   between_choice false a b p q = q
 

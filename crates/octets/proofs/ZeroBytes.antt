@@ -4,7 +4,7 @@ use mathlib.Core.Path.{◌≡◌, refl, sym, ap, ap₂, ◌∙◌}
 use mathlib.Core.Logic.{⊎_elim}
 use mathlib.Core.Bool.{Bool, true, false}
 use mathlib.Core.List.{List, [], ◌∷◌}
-use Rattle.std.specs.Prelude.{Option, Some, None}
+use Rattle.std.specs.Prelude.{Option, Some, None, if◌then◌else◌}
 use Prim.Native.Nat.{ℕ, zero, suc, ◌+◌, ◌*◌, ◌-◌, ◌/◌, ◌%◌, ◌^◌, ◌<◌, ◌≤◌}
 use native.Mathlib.Nat.{pow-succ', not-suc-le-zero}
 use native.Mathlib.Decide.{ℕ_discrete, dec_le}
@@ -30,12 +30,12 @@ filled : ℕ → ℕ → ℕ
 filled x m = bit_or (bit_or (bit_and x m + m) x) m
 
 marked : ℕ → ℕ
-marked b = elim (eqb b 0) [ true ↦ 128 | false ↦ 0 ]
+marked b = if eqb b 0 then 128 else 0
 
 -- every byte is tried
 all_filled : ℕ → Bool
 all_filled zero = true
-all_filled (suc n) = elim (eqb (filled n 127 + marked n) 255) [ true ↦ all_filled n | false ↦ false ]
+all_filled (suc n) = if eqb (filled n 127 + marked n) 255 then all_filled n else false
 
 filled_on : (n : ℕ) → eqb (filled n 127 + marked n) 255 ≡ true → all_filled (suc n) ≡ all_filled n
 unfolding all_filled

@@ -1,6 +1,6 @@
 -- Bytes are numbers below 256, and a section is a list of them. A number takes w bytes in either byte order.
 -- Assumes nothing.
-use Rattle.std.specs.Prelude.{Bool, true, false, List, [], ◌∷◌, ◌++◌, ℕ, zero, suc, ◌+◌, ◌*◌, ◌/◌, ◌%◌, eqb, length, take, drop, replicate}
+use Rattle.std.specs.Prelude.{Bool, true, false, List, [], ◌∷◌, ◌++◌, ℕ, zero, suc, ◌+◌, ◌*◌, ◌/◌, ◌%◌, length, take, drop, replicate, ◌==◌, if◌then◌else◌}
 
 -- the n bytes of s from a place on
 unfoldable pub part : List ℕ → ℕ → ℕ → List ℕ
@@ -51,7 +51,7 @@ numbers_of big w (n ∷ ns) = bytes_of big w n ++ numbers_of big w ns
 -- 128 in place of each byte that is zero, and zero in place of each other
 unfoldable pub zero_marks : List ℕ → List ℕ
 zero_marks [] = []
-zero_marks (b ∷ s) = elim (eqb b 0) [ true ↦ 128 | false ↦ 0 ] ∷ zero_marks s
+zero_marks (b ∷ s) = (if b == 0 then 128 else 0) ∷ zero_marks s
 
 -- n zeros
 unfoldable pub zeros : ℕ → List ℕ

@@ -1,7 +1,7 @@
 // Numbers of any width in lent bytes, in either byte order; bytes copied and compared.
 #![tactic(auto)]
 
-ghost use Rattle.std.specs.Prelude.{◌≡◌, false, List, [], ◌∷◌, ℕ, ◌+◌, ◌*◌, ◌/◌, ◌%◌, ◌≤◌, ◌<◌, ◌^◌, length, get_or, eqb};
+ghost use Rattle.std.specs.Prelude.{◌≡◌, false, List, [], ◌∷◌, ℕ, ◌+◌, ◌*◌, ◌/◌, ◌%◌, ◌≤◌, ◌<◌, ◌^◌, length, nat_eq};
 ghost use Rattle.octets.specs.Octets.{
   part,
   little,
@@ -305,7 +305,7 @@ pub fn same_bytes(a: &[u8], b: &[u8]) -> bool
 
 // Whether a part holds zeros only.
 pub fn all_zero(s: &[u8]) -> bool
-    ensures { result ≡ all (eqb 0) s.now }
+    ensures { result ≡ all (nat_eq 0) s.now }
 {
     s.iter().all(|b| *b == 0)
 }

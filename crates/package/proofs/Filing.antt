@@ -40,6 +40,7 @@ use Rattle.package.proofs.Each.{each_head, each_tail, each_append, each_snoc, ea
 use Rattle.package.proofs.Pieces.{InPiece}
 use Rattle.package.proofs.Inputs.{IndexRead, InputFacts, UnitSection, input_facts}
 use Rattle.package.proofs.Units.{reading_of, unit_taken, read_at}
+use Rattle.std.specs.Prelude.{if◌then◌else◌}
 
 -- ---- contributions
 -- each lies in its section, and one to str_offsets in a piece of it
@@ -176,10 +177,7 @@ module _ (e : Encoding) (i : Input) (facts : InputFacts e i) (bases : BySection 
       }
     where
       from : (r : UnitRead) (g : BySection (Option Contribution))
-          → (elim (any (is_under r.table r.identity) (earlier ++ here)) as (λ z. Check (BySection (Option Contribution))) [
-            | true ↦ skipped r.table
-            | false ↦ contributions_of i home at r
-          ]) ≡ pass g → Contributes e i g
+          → (if any (is_under r.table r.identity) (earlier ++ here) then skipped r.table else contributions_of i home at r) ≡ pass g → Contributes e i g
       from r g p = ⊎_elim
           (λ (z : any (is_under r.table r.identity) (earlier ++ here) ≡ true). contributes_skipped e i r.table g (rw z at p))
           (λ (z : any (is_under r.table r.identity) (earlier ++ here) ≡ false). contributes_filed e i facts home at r g (rw z at p))

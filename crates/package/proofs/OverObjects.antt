@@ -23,6 +23,7 @@ use Rattle.package.specs.Input.{Input, present, input_index, whole_pieces, is_pa
 use Rattle.package.specs.Filing.{Filed, Filing, units_in, grown, filing_from, first_word, filing_of}
 use Rattle.package.proofs.Numbered.{Numbered}
 use Rattle.package.proofs.NumberedWalks.{sections_numbered}
+use Rattle.std.specs.Prelude.{if◌then◌else◌}
 
 -- ---- one object
 -- 1 to 16, or 34
@@ -45,7 +46,7 @@ refuses_bind m f o g = record {
   most = λ n e. ⊎_elim (λ r. o.most n r) (λ p. (g p.0).most n p.2) (bind_refuse m f n e);
 }
 
-refuses_choice : {A : Type 0} (t : Bool) (a b : Check A) → Refuses a → Refuses b → Refuses {A = A} (elim t [ true ↦ a | false ↦ b ])
+refuses_choice : {A : Type 0} (t : Bool) (a b : Check A) → Refuses a → Refuses b → Refuses {A = A} (if t then a else b)
 refuses_choice true a b p q = p
 refuses_choice false a b p q = q
 

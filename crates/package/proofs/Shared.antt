@@ -18,10 +18,11 @@ use Rattle.package.specs.Pack.{shared_bytes}
 use Rattle.bundle.proofs.Every.{Every}
 use Rattle.package.proofs.Each.{each_head, each_tail, each_left, each_middle}
 use Rattle.package.proofs.Filing.{lengths_in}
+use Rattle.std.specs.Prelude.{if◌then◌else◌}
 
 -- what an object gives to shared section c
 unfoldable pub given : List (List ℕ) → ℕ → Input → List ℕ
-given table c i = elim (eqb c 6) [ true ↦ remapped_all i.encoding table i.pieces | false ↦ i.bytes c ]
+given table c i = if eqb c 6 then remapped_all i.encoding table i.pieces else i.bytes c
 
 pub given_strings : (table : List (List ℕ)) (i : Input) → given table 6 i ≡ remapped_all i.encoding table i.pieces
 unfolding given

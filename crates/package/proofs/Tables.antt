@@ -34,6 +34,7 @@ use Rattle.package.proofs.Rows.{rows_are, rows_identities, nothing_before, unit_
 use Rattle.package.proofs.ByCode.{info_bytes, types_bytes}
 use Rattle.package.proofs.Cells.{CellFacts, kept_good, rows_good}
 use Rattle.package.proofs.Accepted.{Accepted, accepted_facts, sections_small}
+use Rattle.std.specs.Prelude.{if◌then◌else◌}
 
 pub each_at : {A : Type 0} {P : A → Type 0} (xs : List A) (d : A) (i : ℕ) → Every P xs → i < length xs → P (get_or xs i d)
 each_at [] d i e h = absurd (not-suc-le-zero h)
@@ -126,7 +127,7 @@ module _ (e : Encoding) (f : Filing) (cu tu : List ℕ) (facts : FilingFacts e n
 -- ---- both tables of an accepted bundle
 -- the bytes of a table's index
 unfoldable pub index_of_table : {b p : List ℕ} → Accepted b p → ℕ → List ℕ
-index_of_table a t = elim (eqb t 1) [ true ↦ a.cu | false ↦ a.tu ]
+index_of_table a t = if eqb t 1 then a.cu else a.tu
 
 module _ (b p : List ℕ) (a : Accepted b p) (h : Bytes b) where
   abbrev pub encoding_in : Encoding

@@ -32,6 +32,7 @@ use Rattle.package.specs.Input.{Input, unit_sections, input_of}
 use Rattle.package.specs.Filing.{Filed, Filing, is_under, index_for, lengths, skipped, index_by_place, abbreviations_for, contributions_of, unit_at, units_from, units_in, grown, filing_from, first_word, filing_of}
 use Rattle.package.specs.Units.{ReadAt, FillSection, FillSections, FillObjects}
 use Rattle.package.proofs.Inputs.{IndexRead, input_parts, input_cu, index_read}
+use Rattle.std.specs.Prelude.{if◌then◌else◌}
 
 -- ---- one unit
 -- the reading that gives a unit
@@ -47,10 +48,7 @@ pub record Taken (i : Input) (bases : BySection ℕ) (earlier here : List Filed)
   pub object : u.input ≡ i
   pub section : u.home ≡ home
   pub base : (c : ℕ) → u.bases c ≡ bases c
-  pub contributed : (elim (any (is_under u.table u.identity) (earlier ++ here)) as (λ z. Check (BySection (Option Contribution))) [
-    | true ↦ skipped u.table
-    | false ↦ contributions_of i home at (reading_of u)
-  ]) ≡ pass u.contributions
+  pub contributed : (if any (is_under u.table u.identity) (earlier ++ here) then skipped u.table else contributions_of i home at (reading_of u)) ≡ pass u.contributions
 
 -- the bytes of sections
 unfoldable size_of : List Section → ℕ
@@ -62,17 +60,11 @@ module _ (i : Input) (bases : BySection ℕ) (earlier : List Filed) where
   unit_taken here home at s u q =
       let r = bind_pass (unit_by i.encoding home (abbreviations_for i home at) s) _ u q in
       let y = read_by_law i.encoding home (abbreviations_for i home at) s r.0 r.1 in
-      let k = bind_pass (elim (any (is_under r.0.table r.0.identity) (earlier ++ here)) as (λ z. Check (BySection (Option Contribution))) [
-        | true ↦ skipped r.0.table
-        | false ↦ contributions_of i home at r.0
-      ]) _ u r.2 in
+      let k = bind_pass (if any (is_under r.0.table r.0.identity) (earlier ++ here) then skipped r.0.table else contributions_of i home at r.0) _ u r.2 in
       subst (Taken i bases earlier here home at s) (pass_inj k.2) (from r.0 k.0 y.abbreviations y.theirs (unit_alone i.encoding home y.abbreviations s r.0 y.read) k.1)
     where
       from : (r : UnitRead) (g : BySection (Option Contribution)) (table : List ℕ) → abbreviations_for i home at r.size ≡ pass table → Alone i.encoding home table s r
-          → (elim (any (is_under r.table r.identity) (earlier ++ here)) as (λ z. Check (BySection (Option Contribution))) [
-            | true ↦ skipped r.table
-            | false ↦ contributions_of i home at r
-          ]) ≡ pass g
+          → (if any (is_under r.table r.identity) (earlier ++ here) then skipped r.table else contributions_of i home at r) ≡ pass g
           → Taken i bases earlier here home at s (record { table = r.table; identity = r.identity; home = home; bytes = take r.size s; input = i; contributions = g; bases = bases })
       from r g table y a c =
           let long : length (take r.size s) ≡ r.size = length-take-le r.size s a.within in
@@ -86,10 +78,7 @@ module _ (i : Input) (bases : BySection ℕ) (earlier : List Filed) where
             object = refl;
             section = refl;
             base = λ c. refl;
-            contributed = subst (λ (n : ℕ). (elim (any (is_under r.table r.identity) (earlier ++ here)) as (λ z. Check (BySection (Option Contribution))) [
-              | true ↦ skipped r.table
-              | false ↦ contributions_of i home at (reading n)
-            ]) ≡ pass g) (sym long) c;
+            contributed = subst (λ (n : ℕ). (if any (is_under r.table r.identity) (earlier ++ here) then skipped r.table else contributions_of i home at (reading n)) ≡ pass g) (sym long) c;
           }
 
   -- ---- the row found by its place
@@ -115,7 +104,7 @@ module _ (i : Input) (bases : BySection ℕ) (earlier : List Filed) where
 
   -- so its row is looked up there: a second unit of that identity is refused, and not skipped
   filed_row : (home at : ℕ) (x : Index) (r : UnitRead) (seen : Bool) (g : BySection (Option Contribution)) → i.cu_index ≡ some x → eqb r.table 1 ≡ true
-      → (elim seen as (λ z. Check (BySection (Option Contribution))) [ true ↦ skipped r.table | false ↦ contributions_of i home at r ]) ≡ pass g
+      → (if seen then skipped r.table else contributions_of i home at r) ≡ pass g
       → row_contributions x i.encoding.width (lengths i) r.identity home at r.size ≡ pass g
   unfolding skipped contributions_of index_for
   filed_row home at x r true g e t q = absurd (pass_refuse g 14 (sym (rw (skipped, t) at q)))

@@ -1,6 +1,6 @@
 -- Unit by unit: each is read (11 to 13) and filed (14 to 16) before the next one, object by object.
 -- Assumes nothing.
-use Rattle.std.specs.Prelude.{Bool, true, false, not, ◌&&◌, ◌||◌, List, [], ◌∷◌, ◌++◌, ℕ, zero, suc, ◌+◌, eqb, length, take, drop}
+use Rattle.std.specs.Prelude.{Bool, true, false, not, ◌&&◌, ◌||◌, List, [], ◌∷◌, ◌++◌, ℕ, zero, suc, ◌+◌, length, take, drop, ◌==◌, if◌then◌else◌}
 use Rattle.std.proofs.Math.Option.{Option, some, none}
 use Rattle.numbers.specs.Tables.{compilation_table}
 use Rattle.numbers.specs.Refusals.{no_row, bad_header, identity_seen}
@@ -31,17 +31,17 @@ pub record Filed : Type 0 where
   pub bases : BySection ℕ
 
 unfoldable pub is_under : ℕ → ℕ → Filed → Bool
-is_under table identity u = eqb u.table table && eqb u.identity identity
+is_under table identity u = u.table == table && u.identity == identity
 
 unfoldable pub index_for : Input → ℕ → Option Index
-index_for i table = elim (eqb table compilation_table) [ true ↦ i.cu_index | false ↦ i.tu_index ]
+index_for i table = if table == compilation_table then i.cu_index else i.tu_index
 
 unfoldable pub lengths : Input → BySection ℕ
 lengths i c = length (i.bytes c)
 
 -- Ticket 1: "For a compilation unit of a version 4 object with cu_index, first find the one row"; 15 and 16 here come before 12
 unfoldable pub index_by_place : Input → ℕ → Option Index
-index_by_place i home = elim (not (is_five i.encoding) && eqb home info_code) [ true ↦ i.cu_index | false ↦ none ]
+index_by_place i home = if not (is_five i.encoding) && home == info_code then i.cu_index else none
 
 -- the bytes in which the abbreviation table of a unit of this size at a place is read: that row's abbrev part, else the object's whole section
 unfoldable pub abbreviations_for : Input → ℕ → ℕ → ℕ → Check (List ℕ)
@@ -65,16 +65,15 @@ contributions_of i home at u =
 
 -- 14: a compilation identity already seen; "A type signature already kept is skipped, and its unit adds nothing"
 unfoldable pub skipped : ℕ → Check (BySection (Option Contribution))
-skipped table = elim (eqb table compilation_table) [ true ↦ refuse identity_seen | false ↦ pass (λ c. none) ]
+skipped table = if table == compilation_table then refuse identity_seen else pass (λ c. none)
 
 -- the unit at the front of s, which starts at a place of the section home; earlier objects' units and here this object's are filed
 unfoldable pub unit_at : Input → BySection ℕ → List Filed → List Filed → ℕ → ℕ → List ℕ → Check Filed
 unit_at i bases earlier here home at s = do
   u ← unit_by i.encoding home (abbreviations_for i home at) s
-  contributions ← elim (any (is_under u.table u.identity) (earlier ++ here)) [
-    | true ↦ skipped u.table
-    | false ↦ contributions_of i home at u
-  ]
+  contributions ← (if any (is_under u.table u.identity) (earlier ++ here)
+    then skipped u.table
+    else contributions_of i home at u)
   pass
       (record {
         table = u.table;
@@ -127,7 +126,7 @@ filing_of b k = filing_from b k.big (first_word k.objects) (λ c. 0) [] k.object
 -- ---- the kept units
 -- "First is first in the bundle: the kept one."
 unfoldable pub keep : List Filed → Filed → List Filed
-keep ks u = elim (any (is_under u.table u.identity) ks) [ true ↦ ks | false ↦ ks ++ (u ∷ []) ]
+keep ks u = if any (is_under u.table u.identity) ks then ks else ks ++ (u ∷ [])
 
 unfoldable pub keep_all : List Filed → List Filed → List Filed
 keep_all ks [] = ks
@@ -139,7 +138,7 @@ kept us = keep_all [] us
 -- the first unit of a table and an identity
 unfoldable pub first_under : ℕ → ℕ → List Filed → Option Filed
 first_under t x [] = none
-first_under t x (u ∷ us) = elim (is_under t x u) [ true ↦ some u | false ↦ first_under t x us ]
+first_under t x (u ∷ us) = if is_under t x u then some u else first_under t x us
 
 -- ---- repeats and namesakes
 -- Ticket 11: "Call it a repeat if all unit bytes agree with the kept one's and a namesake otherwise."

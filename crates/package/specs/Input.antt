@@ -1,6 +1,6 @@
 -- One object, judged up to its units: 4 to 10 in document 01's order; in version 5 with an index 10 and 34 come before 8 and 9.
 -- Assumes nothing.
-use Rattle.std.specs.Prelude.{Bool, true, false, not, ◌&&◌, ◌||◌, List, [], ◌∷◌, ◌++◌, map, ℕ, eqb, leb}
+use Rattle.std.specs.Prelude.{Bool, true, false, not, ◌&&◌, ◌||◌, List, [], ◌∷◌, ◌++◌, map, ℕ, ◌==◌, nat_le, if◌then◌else◌}
 use Rattle.std.proofs.Math.Option.{Option, some, none}
 use Rattle.numbers.specs.Tables.{dwarf5, index2, index5}
 use Rattle.numbers.specs.Sections.{info_code, types_code, abbrev_code, line_code, loc_code, str_offsets_code, macinfo_code, macro_code, loclists_code, rnglists_code, str_code, cu_index_code, tu_index_code}
@@ -29,14 +29,16 @@ pub record Input : Type 0 where
   pub tu_index : Option Index
 
 unfoldable pub present : List Part → ℕ → Bool
-present ps c = leb 1 (count ps c)
+present ps c = nat_le 1 (count ps c)
 
 unfoldable pub repeated : List Part → ℕ → Bool
-repeated ps c = leb 2 (count ps c)
+repeated ps c = nat_le 2 (count ps c)
 
 -- 6: the codes of the wrong edition
 unfoldable pub wrong_codes : Encoding → List ℕ
-wrong_codes e = elim (eqb e.version dwarf5) [ true ↦ types_code ∷ loc_code ∷ macinfo_code ∷ [] | false ↦ loclists_code ∷ rnglists_code ∷ [] ]
+wrong_codes e = if e.version == dwarf5
+    then types_code ∷ loc_code ∷ macinfo_code ∷ []
+    else loclists_code ∷ rnglists_code ∷ []
 
 -- codes other than info and types
 unfoldable pub only_once : List ℕ
@@ -46,7 +48,7 @@ only_once =
 
 -- an index that allows one info only: "6 covers a second version 5 info beside either index"
 unfoldable pub beside_info : Encoding → List Part → Bool
-beside_info e ps = present ps cu_index_code || (eqb e.version dwarf5 && present ps tu_index_code)
+beside_info e ps = present ps cu_index_code || (e.version == dwarf5 && present ps tu_index_code)
 
 -- 6: also a second one of a code other than info and types, or a second info beside cu_index or types beside tu_index
 unfoldable pub edition_good : Encoding → List Part → Bool
@@ -60,30 +62,31 @@ complete ps = present ps abbrev_code && present ps info_code && (not (present ps
 
 -- the version of an object's indexes
 unfoldable pub form_of : Encoding → ℕ
-form_of e = elim (eqb e.version dwarf5) [ true ↦ index5 | false ↦ index2 ]
+form_of e = if e.version == dwarf5 then index5 else index2
 
 -- 10: an index that is there is well formed, and of the object's version
 unfoldable pub input_index : Encoding → List Part → BySection (List ℕ) → ℕ → Check (Option Index)
 input_index e ps bytes c =
-    elim (present ps c) [
-      | true ↦ index_of e.big (bytes c) >>= λ i. (require (eqb i.version (form_of e)) bad_index >>= λ _. pass (some i))
-      | false ↦ pass none
-    ]
+    if present ps c
+    then (index_of e.big (bytes c) >>= λ i. (require (i.version == form_of e) bad_index >>= λ _. pass (some i)))
+    else pass none
 
 -- 8 and 9: a str_offsets that is there is one piece
 unfoldable pub whole_pieces : Encoding → List Part → BySection (List ℕ) → Check (List Piece)
-whole_pieces e ps bytes = elim (present ps str_offsets_code) [ true ↦ piece_of e (bytes str_code) (bytes str_offsets_code) >>= λ p. pass (p ∷ []) | false ↦ pass [] ]
+whole_pieces e ps bytes = if present ps str_offsets_code
+    then (piece_of e (bytes str_code) (bytes str_offsets_code) >>= λ p. pass (p ∷ []))
+    else pass []
 
 -- version 5 with an index: the parts that rows of either index name, "8 and 9 then follow 34, part by part"; an absent section counts as empty
 unfoldable pub is_packed : Encoding → List Part → Bool
-is_packed e ps = eqb e.version dwarf5 && (present ps cu_index_code || present ps tu_index_code)
+is_packed e ps = e.version == dwarf5 && (present ps cu_index_code || present ps tu_index_code)
 
 unfoldable pub tiled_pieces : Encoding → BySection (List ℕ) → Option Index → Option Index → Check (List Piece)
 tiled_pieces e bytes cu tu = tiles (named cu ++ named tu) (bytes str_offsets_code) >>= λ ts. pieces_of e (bytes str_code) (bytes str_offsets_code) ts
 
 unfoldable pub unit_sections : List ℕ → List Part → List Section
 unit_sections b ps =
-    map (λ p. record { code = p.code; bytes = part b p.start p.size }) (those (λ p. eqb p.code info_code || eqb p.code types_code) ps)
+    map (λ p. record { code = p.code; bytes = part b p.start p.size }) (those (λ p. p.code == info_code || p.code == types_code) ps)
 
 -- what stands between 7 and the units
 pub record Opened : Type 0 where
@@ -108,7 +111,7 @@ opened_tiled e ps bytes = do
   pass (record { pieces = pieces; cu_index = cu; tu_index = tu })
 
 unfoldable pub opened : Encoding → List Part → BySection (List ℕ) → Check Opened
-opened e ps bytes = elim (is_packed e ps) [ true ↦ opened_tiled e ps bytes | false ↦ opened_whole e ps bytes ]
+opened e ps bytes = if is_packed e ps then opened_tiled e ps bytes else opened_whole e ps bytes
 
 -- b is the bundle, first the first object's word
 unfoldable pub input_of : List ℕ → Bool → ℕ → Object → Check Input
@@ -116,7 +119,7 @@ input_of b big first o = do
   let e = encoding_of big o.word
   let bytes = body b o.parts
   _ ← require (encoding_good e) bad_encoding
-  _ ← require (eqb o.word first) other_encoding
+  _ ← require (o.word == first) other_encoding
   _ ← require (edition_good e o.parts) wrong_edition
   _ ← require (complete o.parts) section_missing
   t ← opened e o.parts bytes

@@ -1,6 +1,6 @@
 -- The package, and the answer: one of the three kinds of `answers/specs/Answers.antt`.
 -- Assumes nothing.
-use Rattle.std.specs.Prelude.{Bool, true, false, List, [], ◌∷◌, ◌++◌, map, ℕ, ◌+◌, ◌*◌, ◌/◌, ◌%◌, eqb, leb, length}
+use Rattle.std.specs.Prelude.{Bool, true, false, List, [], ◌∷◌, ◌++◌, map, ℕ, ◌+◌, ◌*◌, ◌/◌, ◌%◌, length, ◌==◌, nat_le, if◌then◌else◌}
 use Rattle.std.proofs.Math.Option.{Option, some, none}
 use Rattle.numbers.specs.Tables.{compilation_table, type_table}
 use Rattle.numbers.specs.Sections.{info_code, types_code, abbrev_code, line_code, loc_code, str_offsets_code, macinfo_code, macro_code, loclists_code, rnglists_code, str_code, cu_index_code, tu_index_code}
@@ -24,17 +24,16 @@ use Rattle.package.specs.Filing.{Filed, Filing, filing_of, first_word, kept, Kin
 -- a unit's cells: its own bytes in info or types, and its contributions where they lie in the package's sections
 unfoldable pub cells : Filed → ℕ → BySection (Option Contribution)
 cells u at c =
-    elim (eqb c u.home) [
-      | true ↦ some (record { offset = at; size = length u.bytes })
-      | false ↦ elim (u.contributions c) [ some k ↦ some (record { offset = u.bases c + k.offset; size = k.size }) | none ↦ none ]
-    ]
+    if c == u.home
+    then some (record { offset = at; size = length u.bytes })
+    else elim (u.contributions c) [ some k ↦ some (record { offset = u.bases c + k.offset; size = k.size }) | none ↦ none ]
 
 pub record Entry : Type 0 where
   pub table : ℕ
   pub row : Row
 
 unfoldable pub longer : BySection ℕ → ℕ → ℕ → BySection ℕ
-longer before home n c = elim (eqb c home) [ true ↦ before c + n | false ↦ before c ]
+longer before home n c = if c == home then before c + n else before c
 
 -- the kept units as rows; before says how many bytes of info and types stand before them
 unfoldable pub entries_from : BySection ℕ → List Filed → List Entry
@@ -44,20 +43,19 @@ entries_from before (u ∷ us) =
     ∷ entries_from (longer before u.home (length u.bytes)) us
 
 unfoldable pub rows_of : List Filed → ℕ → List Row
-rows_of ks table = map (λ e. e.row) (those (λ e. eqb e.table table) (entries_from (λ c. 0) ks))
+rows_of ks table = map (λ e. e.row) (those (λ e. e.table == table) (entries_from (λ c. 0) ks))
 
 -- ---- sections
 -- the units of info, or of types, joined as they were found
 unfoldable pub unit_bytes : List Filed → ℕ → List ℕ
-unit_bytes ks home = joined (map (λ u. u.bytes) (those (λ u. eqb u.home home) ks))
+unit_bytes ks home = joined (map (λ u. u.bytes) (those (λ u. u.home == home) ks))
 
 -- "Each shared section (codes 3 to 10) is all objects' bytes joined in order, str_offsets remapped." A section of several pieces is remapped piece by piece.
 unfoldable pub shared_bytes : List (List ℕ) → List Input → ℕ → List ℕ
 shared_bytes table inputs c =
-    elim (eqb c str_offsets_code) [
-      | true ↦ joined (map (λ i. remapped_all i.encoding table i.pieces) inputs)
-      | false ↦ joined (map (λ i. i.bytes c) inputs)
-    ]
+    if c == str_offsets_code
+    then (joined (map (λ i. remapped_all i.encoding table i.pieces) inputs))
+    else joined (map (λ i. i.bytes c) inputs)
 
 unfoldable pub all_used : List Input → List (List ℕ)
 all_used [] = []
@@ -81,7 +79,7 @@ section_list f cu tu =
 
 -- "each non-empty section once in order of code"
 unfoldable pub non_empty : Section → Bool
-non_empty s = leb 1 (length s.bytes)
+non_empty s = nat_le 1 (length s.bytes)
 
 -- with both indexes
 unfoldable pub package_sections : Bool → ℕ → Filing → List Section
@@ -99,11 +97,11 @@ package_objects (o ∷ os) ss = record { word = o.word; sections = ss } ∷ []
 unfoldable pub judged : List ℕ → ℕ → Check (List ℕ)
 judged b w = do
   _ ← require (length_good bundle_limit b) bad_length
-  _ ← require (leb (work_for_word * (length b / 4)) w) work_short
+  _ ← require (nat_le (work_for_word * (length b / 4)) w) work_short
   k ← bundle_of b
   f ← filing_of b k
   let ss = package_sections k.big (first_word k.objects % 256) f
-  _ ← require (all (λ s. leb (length s.bytes) section_limit) ss) section_too_long
+  _ ← require (all (λ s. nat_le (length s.bytes) section_limit) ss) section_too_long
   pass (written k.big (package_objects k.objects ss))
 
 -- a bundle, with w words of work and an output of o bytes

@@ -1,6 +1,6 @@
 -- Marks: for each byte of a section the size of the part that starts there, 0 where none does.
 -- Assumes nothing.
-use Rattle.std.specs.Prelude.{◌≡◌, ◌⊎◌, Bool, true, false, List, [], ◌∷◌, ℕ, ◌+◌, ◌-◌, ◌<◌, ◌≤◌, eqb, length, get_or}
+use Rattle.std.specs.Prelude.{◌≡◌, ◌⊎◌, Bool, true, false, List, [], ◌∷◌, ℕ, ◌+◌, ◌-◌, ◌<◌, ◌≤◌, length, ◌==◌, slice_index, if◌then◌else◌}
 use Rattle.std.specs.Prelude.{Some, None}
 use Rattle.std.proofs.Math.Option.{Option, some, none}
 use Rattle.octets.specs.Checked.{pass, refuse}
@@ -24,8 +24,8 @@ parts_in None = []
 pub record Marks (cs : List Contribution) (ms : List ℕ) : Type 0 where
   pub some : (c : Contribution) → is_one cs c ≡ true → 1 ≤ c.size
   pub fits : (c : Contribution) → is_one cs c ≡ true → c.offset + c.size ≤ length ms
-  pub all : (c : Contribution) → is_one cs c ≡ true → get_or ms c.offset 0 ≡ c.size
-  pub only : (at : ℕ) → at < length ms → (get_or ms at 0 ≡ 0) ⊎ (is_one cs (record { offset = at; size = get_or ms at 0 }) ≡ true)
+  pub all : (c : Contribution) → is_one cs c ≡ true → slice_index ms c.offset ≡ c.size
+  pub only : (at : ℕ) → at < length ms → (slice_index ms at ≡ 0) ⊎ (is_one cs (record { offset = at; size = slice_index ms at }) ≡ true)
 
 -- no marks do: a part ends outside, or two of different sizes start at one place
 pub record Clash (cs : List Contribution) (n : ℕ) : Type 0 where
@@ -43,20 +43,19 @@ pub record Marked (cs : List Contribution) (ms ns : List ℕ) (r : Bool) : Type 
 -- a place passed: how many bytes are left of the part at hand, where a part starts where one must and nowhere else
 unfoldable pub turned : ℕ → ℕ → Option ℕ
 turned left n =
-    elim (eqb left 0) [
-      | true ↦ elim (eqb n 0) [ true ↦ none | false ↦ some (n - 1) ]
-      | false ↦ elim (eqb n 0) [ true ↦ some (left - 1) | false ↦ none ]
-    ]
+    if left == 0
+    then if n == 0 then none else some (n - 1)
+    else if n == 0 then some (left - 1) else none
 
 -- from a place on, where so many bytes are left of the part at hand: parts start where one ends, and nowhere else, and the last one ends with the section
 unfoldable pub marks_good : ℕ → List ℕ → Bool
-marks_good left [] = eqb left 0
+marks_good left [] = left == 0
 marks_good left (n ∷ ms) = elim (turned left n) [ some more ↦ marks_good more ms | none ↦ false ]
 
 -- parts that tile the section, one behind the other, each of the size that is marked at its place
 pub record TiledBy (ms : List ℕ) (ts : List Contribution) : Type 0 where
   pub tiling : Tiling 0 (length ms) ts
-  pub sizes : (c : Contribution) → is_one ts c ≡ true → get_or ms c.offset 0 ≡ c.size
+  pub sizes : (c : Contribution) → is_one ts c ≡ true → slice_index ms c.offset ≡ c.size
 
 -- where the first of them starts that 8 refuses; the section's end where there is none
 unfoldable pub good_end : Encoding → List ℕ → List Contribution → ℕ

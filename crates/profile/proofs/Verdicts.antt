@@ -27,6 +27,7 @@ use Rattle.profile.specs.Profile.{is_there, has_row, conditions, profiled, faile
 use Rattle.profile.specs.Judged.{present_in, row_in, conditions_in, judged}
 use Rattle.profile.proofs.Bits.{failed_none}
 use Rattle.profile.proofs.Objects.{Without, With, package_object}
+use Rattle.std.specs.Prelude.{if◌then◌else◌}
 
 -- ---- each condition that the head has in another form
 width_four : (w : ℕ) → (eqb w 4 || eqb w 8) ≡ true → not (eqb w 8) ≡ eqb w 4
@@ -66,7 +67,7 @@ unfolding conditions head_in coded scan_of by_code numbered
 conditions_are p k e = rw (narrow p k e, present_is k.cu_index, has_indexed 5 k.cu_index, row_is k.cu_index)
 
 -- ---- the verdict
-code_is : (t : Bool) → bool_byte (not t) ≡ elim t [ true ↦ 0 | false ↦ 1 ]
+code_is : (t : Bool) → bool_byte (not t) ≡ (if t then 0 else 1)
 code_is true = refl
 code_is false = refl
 

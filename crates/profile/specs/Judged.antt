@@ -1,6 +1,6 @@
 -- The conditions by what the code holds of a package, and the verdict as callers are told it. Nothing here need be believed but `judged`, the last definition.
 -- Assumes nothing.
-use Rattle.std.specs.Prelude.{Bool, true, false, not, ◌&&◌, List, [], ◌∷◌, ℕ, eqb, get_or, Option, Some, None}
+use Rattle.std.specs.Prelude.{Bool, true, false, not, ◌&&◌, List, [], ◌∷◌, ℕ, Option, Some, None, ◌==◌, slice_index}
 use Rattle.numbers.specs.Sections.{macro_code}
 use Rattle.numbers.specs.Tables.{index5}
 use Rattle.index.specs.declared.reading.IndexHead.{IndexHead}
@@ -14,7 +14,7 @@ present_in (Some h) = true
 present_in None = false
 
 abbrev pub row_in : Option IndexHead → Bool
-row_in (Some h) = not (eqb h.units 0)
+row_in (Some h) = not (h.units == 0)
 row_in None = true
 
 -- of a package with an object or without one
@@ -24,7 +24,7 @@ conditions_in object h =
     ∷ not h.encoding.big
     ∷ (object && not h.encoding.wide)
     ∷ h.encoding.long
-    ∷ eqb (get_or h.sections.count macro_code 0) 0
+    ∷ (slice_index h.sections.count macro_code == 0)
     ∷ present_in h.cu
     ∷ index_has index5 h.cu
     ∷ row_in h.cu

@@ -1,6 +1,6 @@
 -- The archive profile: which packages the archive group takes. Any other well formed package is not in it, and a bad one is 21.
 -- Assumes nothing.
-use Rattle.std.specs.Prelude.{Bool, true, false, not, List, [], ◌∷◌, ℕ, ◌+◌, ◌*◌, eqb}
+use Rattle.std.specs.Prelude.{Bool, true, false, not, List, [], ◌∷◌, ℕ, ◌+◌, ◌*◌, ◌==◌, if◌then◌else◌}
 use Rattle.std.proofs.Math.Option.{Option, some, none}
 use Rattle.numbers.specs.Sections.{macro_code}
 use Rattle.numbers.specs.Tables.{dwarf5, index5}
@@ -17,7 +17,7 @@ is_there none = false
 
 -- at least one row, with or without a slot
 unfoldable pub has_row : Option Index → Bool
-has_row (some i) = not (eqb i.units 0)
+has_row (some i) = not (i.units == 0)
 has_row none = true
 
 -- What the profile asks of a package, in its order. A cu_index that is missing fails the sixth alone, a package without an object
@@ -25,12 +25,12 @@ has_row none = true
 unfoldable pub conditions : Package → List Bool
 conditions k =
     -- object version 5, little-endian, offset width 4, address size 8
-    eqb k.encoding.version dwarf5
+    (k.encoding.version == dwarf5)
     ∷ not k.encoding.big
-    ∷ eqb k.encoding.width 4
-    ∷ eqb k.encoding.address 8
+    ∷ (k.encoding.width == 4)
+    ∷ (k.encoding.address == 8)
     -- no macro section, not even an empty one
-    ∷ eqb (count k.parts macro_code) 0
+    ∷ (count k.parts macro_code == 0)
     -- a cu_index, of version 5, with at least one row
     ∷ is_there k.cu_index
     ∷ has_version index5 k.cu_index
@@ -41,7 +41,7 @@ conditions k =
 unfoldable pub profiled : List ℕ → ℕ
 profiled p =
     elim (package_of p)
-    [ pass k ↦ elim (all (λ holds. holds) (conditions k)) [ true ↦ 0 | false ↦ 1 ] | refuse n ↦ bad_package ]
+    [ pass k ↦ if all (λ holds. holds) (conditions k) then 0 else 1 | refuse n ↦ bad_package ]
 
 -- a bit for each condition that fails, the first one's the least
 unfoldable pub failed_bit : Bool → ℕ

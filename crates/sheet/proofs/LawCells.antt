@@ -16,6 +16,7 @@ use Rattle.index.specs.Columns.{Column, columns_of, column_in, columns_four, col
 use Rattle.index.specs.Index.{Index, code_good, place_of, cell_at, cell_of}
 use Rattle.index.proofs.LawPlaces.{place_of_here, place_of_on}
 use Rattle.sheet.specs.Sheet.{section_in}
+use Rattle.std.specs.Prelude.{if◌then◌else◌}
 
 -- ---- our code of a column, and back
 pub record Named (version code : ℕ) : Type 0 where
@@ -54,7 +55,7 @@ named_five (suc (suc (suc (suc (suc (suc (suc zero))))))) apart least most = rec
 named_five (suc (suc (suc (suc (suc (suc (suc (suc zero)))))))) apart least most = record { column = refl; least = omega arith; most = omega arith }
 named_five (suc (suc (suc (suc (suc (suc (suc (suc (suc k))))))))) apart least most = absurd (omega arith)
 
-good_code : (t : Bool) (code : ℕ) → elim t [ true ↦ false | false ↦ leb 1 code && leb code 8 ] ≡ true → (t ≡ false) × (1 ≤ code) × (code ≤ 8)
+good_code : (t : Bool) (code : ℕ) → (if t then false else leb 1 code && leb code 8) ≡ true → (t ≡ false) × (1 ≤ code) × (code ≤ 8)
 good_code true code e = absurd (true_false e refl)
 good_code false code e = (refl, leb-true 1 code (and_left (leb 1 code) (leb code 8) e), leb-true code 8 (and_right (leb 1 code) (leb code 8) e))
 

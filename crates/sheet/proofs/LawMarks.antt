@@ -17,6 +17,7 @@ use lib.Seq.{get_or-set_same, get_or-set_other}
 use Rattle.octets.specs.Octets.{zeros}
 use Rattle.octets.proofs.Placed.{get_d_zeros}
 use Rattle.sheet.specs.Held.{marked, with_mark, all_marked}
+use Rattle.std.specs.Prelude.{if◌then◌else◌}
 
 -- ---- a bit of a word
 -- the shift of one bit stays in the word
@@ -83,6 +84,6 @@ all_from words row zero = refl
 all_from words row (suc n) = go (marked words row) (all_from words (row + 1) n ∙ ap (λ (r : ℕ). all_marked words r n) (add-one row))
   where
     go : (t : Bool) → list_all (marked words) (range_with_len (row + 1) n) ≡ all_marked words (suc row) n
-        → (t && list_all (marked words) (range_with_len (row + 1) n)) ≡ elim t [ true ↦ all_marked words (suc row) n | false ↦ false ]
+        → (t && list_all (marked words) (range_with_len (row + 1) n)) ≡ (if t then all_marked words (suc row) n else false)
     go true e = e
     go false e = refl

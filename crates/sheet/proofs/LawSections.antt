@@ -8,7 +8,7 @@ use Prim.Native.Nat.{ℕ, ◌≤◌, ◌<◌}
 use native.Mathlib.Omega.{arith}
 use lib.Dec.{eqb, leb}
 use borrow.Author.Tests.{leb-true}
-use Rattle.std.specs.Prelude.{find}
+use Rattle.std.specs.Prelude.{find, if◌then◌else◌}
 use Rattle.std.specs.Option.{option_map_or}
 use Rattle.octets.specs.Lists.{all}
 use Rattle.octets.proofs.Checks.{known}
@@ -31,7 +31,7 @@ below [] e code = omega arith
 below (c ∷ cs) e code =
     go (eqb c.column code) (leb-true c.section 99 (all_head (λ (z : Column). leb z.section 99) c cs e)) (below cs (all_tail (λ (z : Column). leb z.section 99) c cs e) code)
   where
-    go : (t : Bool) → c.section ≤ 99 → section_in cs code < 100 → elim t [ true ↦ c.section | false ↦ section_in cs code ] < 100
+    go : (t : Bool) → c.section ≤ 99 → section_in cs code < 100 → (if t then c.section else section_in cs code) < 100
     go true h g = omega arith
     go false h g = g
 
@@ -39,6 +39,6 @@ pub section_small : (version code : ℕ) → section_in (columns_of version) cod
 unfolding columns_of columns_four columns_five all
 section_small version code = go (eqb version 5)
   where
-    go : (t : Bool) → section_in (elim t [ true ↦ columns_five | false ↦ columns_four ]) code < 100
+    go : (t : Bool) → section_in (if t then columns_five else columns_four) code < 100
     go true = below columns_five refl code
     go false = below columns_four refl code

@@ -1,6 +1,6 @@
 -- What the code holds while it lays out a sheet. Nothing here need be believed.
 -- Assumes nothing.
-use Rattle.std.specs.Prelude.{◌≡◌, Bool, true, false, List, [], ◌∷◌, ◌++◌, ℕ, zero, suc, ◌*◌, ◌-◌, ◌/◌, ◌%◌, ◌^◌, ◌≤◌, ◌<◌, eqb, length, get_or, set}
+use Rattle.std.specs.Prelude.{◌≡◌, Bool, true, false, List, [], ◌∷◌, ◌++◌, ℕ, zero, suc, ◌*◌, ◌-◌, ◌/◌, ◌%◌, ◌^◌, ◌≤◌, ◌<◌, length, set, ◌==◌, slice_index, if◌then◌else◌}
 use Rattle.std.specs.Int.Bits.{bit_or}
 use Rattle.numbers.specs.Tables.{columns2}
 use Rattle.octets.specs.Octets.{zeros, padded}
@@ -17,20 +17,20 @@ abbrev pub most_slots : ℕ
 most_slots = 524_288
 
 unfoldable pub marked : List ℕ → ℕ → Bool
-marked words n = eqb (get_or words (n / 32) 0 / 2 ^ (n % 32) % 2) 1
+marked words n = slice_index words (n / 32) / 2 ^ (n % 32) % 2 == 1
 
 unfoldable pub with_mark : List ℕ → ℕ → List ℕ
-with_mark words n = set words (n / 32) (bit_or (get_or words (n / 32) 0) (2 ^ (n % 32)))
+with_mark words n = set words (n / 32) (bit_or (slice_index words (n / 32)) (2 ^ (n % 32)))
 
 -- no row but 0 stands twice
 unfoldable pub none_twice : List ℕ → Bool
 none_twice [] = true
-none_twice (r ∷ rs) = elim (eqb r 0) [ true ↦ none_twice rs | false ↦ elim (has rs r) [ true ↦ false | false ↦ none_twice rs ] ]
+none_twice (r ∷ rs) = if r == 0 then none_twice rs else if has rs r then false else none_twice rs
 
 -- each of n rows from one on is marked
 unfoldable pub all_marked : List ℕ → ℕ → ℕ → Bool
 all_marked words row zero = true
-all_marked words row (suc n) = elim (marked words row) [ true ↦ all_marked words (suc row) n | false ↦ false ]
+all_marked words row (suc n) = if marked words row then all_marked words (suc row) n else false
 
 -- each of n rows from one on has exactly one slot
 unfoldable pub single : List ℕ → List ℕ → ℕ → ℕ → Bool
@@ -49,22 +49,22 @@ pub record IndexHere (i : Index) : Type 0 where
   pub above : i.units < length i.rows
   pub columns : length i.codes ≤ columns2
   pub identities : length i.identities ≡ length i.rows
-  pub rows : (k : ℕ) → k < length i.rows → get_or i.rows k 0 ≤ i.units
+  pub rows : (k : ℕ) → k < length i.rows → slice_index i.rows k ≤ i.units
 
 -- ---- lines
 -- the first n of these are our codes of the index's first n columns
 pub record Sections (i : Index) (sections : List ℕ) (n : ℕ) : Type 0 where
   pub room : n ≤ length sections
-  pub is : (k : ℕ) → k < n → get_or sections k 0 ≡ section_in (columns_of i.version) (get_or i.codes k 0)
+  pub is : (k : ℕ) → k < n → slice_index sections k ≡ section_in (columns_of i.version) (slice_index i.codes k)
 
 -- the line of column k and of cell n
 pub record CellLine (letter : ℕ) (i : Index) (identity k n : ℕ) (l : Line) : Type 0 where
   pub is : l ≡ record {
     letter = letter;
     identity = identity;
-    section = section_in (columns_of i.version) (get_or i.codes k 0);
-    offset = get_or i.offsets n 0;
-    size = get_or i.sizes n 0;
+    section = section_in (columns_of i.version) (slice_index i.codes k);
+    offset = slice_index i.offsets n;
+    size = slice_index i.sizes n;
   }
 
 -- the lines of a row whose slots hold these identities, by the first of them; zeros where there is none

@@ -1,6 +1,6 @@
 -- The tables of a package that was opened, as the code measures and writes them. Nothing here need be believed.
 -- Assumes nothing.
-use Rattle.std.specs.Prelude.{◌≡◌, true, false, List, ◌++◌, ℕ, ◌+◌, ◌-◌, ◌≤◌, eqb, length}
+use Rattle.std.specs.Prelude.{◌≡◌, true, false, List, ◌++◌, ℕ, ◌+◌, ◌-◌, ◌≤◌, length, ◌==◌, if◌then◌else◌}
 use Rattle.numbers.specs.Tables.{compilation_table, type_table}
 use Rattle.octets.specs.Octets.{zeros, padded}
 use Rattle.octets.specs.Checked.{Check, pass, refuse, ◌>>=◌}
@@ -9,7 +9,7 @@ use Rattle.lookup.specs.Answers.{package_in}
 use Rattle.sheet.specs.Sheet.{letter_c, letter_t, table_lines}
 
 unfoldable pub letter_of : ℕ → ℕ
-letter_of table = elim (eqb table 1) [ true ↦ letter_c | false ↦ letter_t ]
+letter_of table = if table == 1 then letter_c else letter_t
 
 unfoldable pub table_of : List ℕ → ℕ → Check (List ℕ)
 table_of p table = table_lines (letter_of table) (index_for (package_in p) table)

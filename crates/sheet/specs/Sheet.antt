@@ -1,6 +1,6 @@
 -- Document 02, ticket 6: the sheet of a package, both tables with a line for each row and column, on a page that is lent.
 -- Assumes nothing.
-use Rattle.std.specs.Prelude.{true, false, List, [], ◌∷◌, ◌++◌, ℕ, zero, suc, ◌+◌, ◌*◌, ◌-◌, ◌/◌, ◌%◌, eqb, leb, ltb, length, get_or}
+use Rattle.std.specs.Prelude.{true, false, List, [], ◌∷◌, ◌++◌, ℕ, zero, suc, ◌+◌, ◌*◌, ◌-◌, ◌/◌, ◌%◌, length, ◌==◌, nat_le, nat_lt, slice_index, if◌then◌else◌}
 use Rattle.std.proofs.Math.Option.{Option, some, none}
 use Rattle.numbers.specs.Refusals.{bad_package, page_short}
 use Rattle.octets.specs.Checked.{Check, pass, refuse, ◌>>=◌}
@@ -28,7 +28,7 @@ letter_t = 84
 
 -- 0 to 9, a to f
 unfoldable pub digit : ℕ → ℕ
-digit n = elim (ltb n 10) [ true ↦ 48 + n | false ↦ 87 + n ]
+digit n = if nat_lt n 10 then 48 + n else 87 + n
 
 -- w "lower-case hexadecimal digits"
 unfoldable pub hex : ℕ → ℕ → List ℕ
@@ -49,13 +49,13 @@ line letter identity section offset size =
 -- "our section code": that of the section whose column has a code
 unfoldable pub section_in : List Column → ℕ → ℕ
 section_in [] code = 0
-section_in (c ∷ cs) code = elim (eqb c.column code) [ true ↦ c.section | false ↦ section_in cs code ]
+section_in (c ∷ cs) code = if c.column == code then c.section else section_in cs code
 
 -- "a line for each column in the index's order", for the cells from number n on
 unfoldable pub cell_lines : ℕ → Index → ℕ → ℕ → List ℕ → List ℕ
 cell_lines letter i identity n [] = []
 cell_lines letter i identity n (code ∷ codes) =
-    line letter identity (section_in (columns_of i.version) code) (get_or i.offsets n 0) (get_or i.sizes n 0)
+    line letter identity (section_in (columns_of i.version) code) (slice_index i.offsets n) (slice_index i.sizes n)
     ++ cell_lines letter i identity (suc n) codes
 
 -- rows count from 1
@@ -66,7 +66,7 @@ row_lines letter i row identity = cell_lines letter i identity ((row - 1) * leng
 unfoldable pub identities_in : ℕ → List ℕ → List ℕ → List ℕ
 identities_in row [] identities = []
 identities_in row (r ∷ rs) [] = []
-identities_in row (r ∷ rs) (x ∷ xs) = elim (eqb r row) [ true ↦ x ∷ identities_in row rs xs | false ↦ identities_in row rs xs ]
+identities_in row (r ∷ rs) (x ∷ xs) = if r == row then x ∷ identities_in row rs xs else identities_in row rs xs
 
 -- "and here so is one with a row that has not exactly one slot"
 unfoldable pub only : List ℕ → Check ℕ
@@ -97,7 +97,7 @@ sheet_lines p = do
 -- "Refused: 35, after 21, for a page buffer too short": for a page of o bytes
 unfoldable pub on_page : Check (List ℕ) → ℕ → Answer
 on_page (refuse n) o = refused n
-on_page (pass lines) o = elim (leb (length lines) o) [ true ↦ made lines | false ↦ refused page_short ]
+on_page (pass lines) o = if nat_le (length lines) o then made lines else refused page_short
 
 unfoldable pub sheet_of : List ℕ → ℕ → Answer
 sheet_of p o = on_page (sheet_lines p) o

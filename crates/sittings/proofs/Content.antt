@@ -23,6 +23,7 @@ use Rattle.sittings.specs.Sittings.{section_in, object_in}
 use Rattle.package.specs.Pieces.{Piece, piece_of}
 use Rattle.package.specs.Input.{Input, wrong_codes, beside_info, edition_good, form_of, input_index, is_packed, whole_pieces, tiled_pieces, Opened, opened_whole, opened_tiled, opened, input_of}
 use Rattle.package.specs.Filing.{Filed, Filing, units_in, grown, filing_from}
+use Rattle.std.specs.Prelude.{if◌then◌else◌}
 
 -- `input_of` by the object's word, how many sections of each code it has, their bytes, and its sections of units
 module _ (big : Bool) (first word : ℕ) (κ : ℕ → ℕ) (bytes : BySection (List ℕ)) (units : List Section) where
@@ -41,22 +42,16 @@ module _ (big : Bool) (first word : ℕ) (κ : ℕ → ℕ) (bytes : BySection (
       && not ((has 12 || (eqb e.version 5 && has 13)) && twice 1) && not (has 13 && twice 2)
 
   index : ℕ → Check (Option Index)
-  index c = elim (has c) as (λ b. Check (Option Index)) [
-    | true ↦ index_of e.big (bytes c) >>= λ i. (require (eqb i.version (form_of e)) 10 >>= λ _. pass (some i))
-    | false ↦ pass none
-  ]
+  index c = (if has c then (index_of e.big (bytes c) >>= λ i. (require (eqb i.version (form_of e)) 10 >>= λ _. pass (some i))) else pass none)
 
   whole : Check (List Piece)
-  whole = elim (has 6) as (λ b. Check (List Piece)) [ true ↦ piece_of e (bytes 11) (bytes 6) >>= λ p. pass (p ∷ []) | false ↦ pass [] ]
+  whole = (if has 6 then (piece_of e (bytes 11) (bytes 6) >>= λ p. pass (p ∷ [])) else pass [])
 
   made : List Piece → Option Index → Option Index → Opened
   made ps cu tu = record { pieces = ps; cu_index = cu; tu_index = tu }
 
   opens : Check Opened
-  opens = elim (eqb e.version 5 && (has 12 || has 13)) as (λ b. Check Opened) [
-    | true ↦ index 12 >>= λ cu. (index 13 >>= λ tu. (tiled_pieces e bytes cu tu >>= λ ps. pass (made ps cu tu)))
-    | false ↦ whole >>= λ ps. (index 12 >>= λ cu. (index 13 >>= λ tu. pass (made ps cu tu)))
-  ]
+  opens = (if eqb e.version 5 && (has 12 || has 13) then (index 12 >>= λ cu. (index 13 >>= λ tu. (tiled_pieces e bytes cu tu >>= λ ps. pass (made ps cu tu)))) else whole >>= λ ps. (index 12 >>= λ cu. (index 13 >>= λ tu. pass (made ps cu tu))))
 
   input_by : Check Input
   input_by = do

@@ -23,6 +23,7 @@ use Rattle.index.proofs.LawGrid.{no_row}
 use Rattle.index.proofs.OneRow.{those_has}
 use Rattle.index.proofs.RoundTrip.{written}
 use Rattle.octets.proofs.Options.{some_inj, some_none}
+use Rattle.std.specs.Prelude.{if◌then◌else◌}
 
 -- the rest of a chain, once its first check passes
 pub goes_on : {A B : Type 0} (m : Check A) (f : A → Check B) (a : A) (b : B) → m ≡ pass a → (m >>= f) ≡ pass b → f a ≡ pass b
@@ -40,7 +41,7 @@ needed_not lengths c z = ⊎_elim (λ t. absurd ((needed_shared lengths c t).1 z
 pub row_given : (x : Index) (width : ℕ) (lengths : BySection ℕ) (identity home at size row : ℕ) (g : BySection (Option Contribution))
     → row_contributions x width lengths identity home at size ≡ pass g → row_of x (probe x identity) ≡ pass row
     → (all (λ c. is_some (cell_of x row c)) (home ∷ needed_codes lengths) ≡ true)
-    × ((c : ℕ) → g c ≡ (elim (has (needed_codes lengths) c) as (λ b. Option Contribution) [ true ↦ cell_of x row c | false ↦ none ]))
+    × ((c : ℕ) → g c ≡ (if has (needed_codes lengths) c then cell_of x row c else none))
 unfolding row_contributions
 row_given x width lengths identity home at size row g q r =
     let q1 = goes_on (row_of x (probe x identity)) _ row g r q in

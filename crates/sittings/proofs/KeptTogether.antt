@@ -25,11 +25,12 @@ use Rattle.sittings.proofs.Rebased.{Both, none as done, more, Sees, sees_append,
 use Rattle.sittings.proofs.Alike.{Alike}
 use Rattle.package.proofs.Cells.{cell_home, cell_some, cell_none}
 use Rattle.sittings.proofs.PackageWalk.{AgainIn}
+use Rattle.std.specs.Prelude.{if◌then◌else◌}
 
 -- ---- units that are added to others
 unfoldable pub added : List Filed → List Filed → List Filed
 added ks [] = []
-added ks (u ∷ us) = elim (any (is_under u.table u.identity) ks) [ true ↦ added ks us | false ↦ u ∷ added (ks ++ (u ∷ [])) us ]
+added ks (u ∷ us) = if any (is_under u.table u.identity) ks then added ks us else u ∷ added (ks ++ (u ∷ [])) us
 
 pub keep_added : (ks us : List Filed) → keep_all ks us ≡ ks ++ added ks us
 unfolding keep_all added
@@ -47,7 +48,7 @@ under_moved t x u v m = sym (ap (is_under t x) m.is)
 
 sees_one : (u v : Filed) → ((t x : ℕ) → is_under t x u ≡ is_under t x v) → Sees (u ∷ []) (v ∷ [])
 unfolding any
-sees_one u v h t x = ap (λ (b : Bool). elim b as (λ b. Bool) [ true ↦ true | false ↦ false ]) (h t x)
+sees_one u v h t x = ap (λ (b : Bool). (if b then true else false)) (h t x)
 
 -- the same ones are added to what has seen the same
 pub added_moved : (ks ks' us vs : List Filed) → Sees ks ks' → Both Moved us vs → Both Moved (added ks us) (added ks' vs)

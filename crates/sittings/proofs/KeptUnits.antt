@@ -38,10 +38,11 @@ use Rattle.sittings.proofs.KeptTogether.{SharedOnly}
 use Rattle.sittings.proofs.Own.{own_abbreviations}
 use Rattle.sittings.proofs.OwnPiece.{IsPiece, own_piece}
 use Rattle.sittings.proofs.PackageUnit.{KeptFacts}
+use Rattle.std.specs.Prelude.{if◌then◌else◌}
 
 -- ---- a unit's home goes by its table
 unfoldable pub home_by : Encoding → ℕ → ℕ
-home_by e t = elim (is_five e) [ true ↦ 1 | false ↦ elim (eqb t 2) [ true ↦ 2 | false ↦ 1 ] ]
+home_by e t = if is_five e then 1 else if eqb t 2 then 2 else 1
 
 home_five : (e : Encoding) (t : ℕ) → is_five e ≡ true → home_by e t ≡ 1
 unfolding home_by

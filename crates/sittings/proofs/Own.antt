@@ -26,6 +26,7 @@ use Rattle.package.proofs.Units.{reading_of, Taken, read_at}
 use Rattle.package.proofs.UnitStrings.{part_contributed, none_contributed}
 use Rattle.octets.proofs.Elements.{no_length}
 use Rattle.sittings.proofs.Given.{goes_on, needed_is, needed_not, row_given}
+use Rattle.std.specs.Prelude.{if◌then◌else◌}
 
 -- the whole of a section is what a unit without an index contributes
 whole_cell : (lengths : BySection ℕ) (c : ℕ) → has shared c ≡ true → (lengths c ≡ 0 → ⊥) → whole_contributions lengths c ≡ some (record { offset = 0; size = lengths c })
@@ -38,7 +39,7 @@ whole_none lengths c z = rw (whole_contributions, needed_not lengths c z)
 
 -- a compilation unit isn't skipped
 pub not_skipped : (seen : Bool) (table : ℕ) (m : Check (BySection (Option Contribution))) (g : BySection (Option Contribution)) → table ≡ 1
-    → (elim seen as (λ z. Check (BySection (Option Contribution))) [ true ↦ skipped table | false ↦ m ]) ≡ pass g → m ≡ pass g
+    → (if seen then skipped table else m) ≡ pass g → m ≡ pass g
 unfolding skipped
 not_skipped true table m g t q = absurd (pass_refuse g 14 (sym (rw (skipped, eq-eqb table 1 t) at q)))
 not_skipped false table m g t q = q
@@ -81,7 +82,7 @@ own_whole u s a i p w = elim (ℕ_discrete (length (u.input.bytes 3)) 0) [
 
 -- a row's part, contributed
 own_part : (u : Filed) (x : Index) (row : ℕ) (s a : List ℕ) → u.input.bytes 3 ≡ s → abbrev_part x row s ≡ pass a
-    → u.contributions 3 ≡ (elim (has (needed_codes (lengths u.input)) 3) as (λ b. Option Contribution) [ true ↦ cell_of x row 3 | false ↦ none ]) → a ≡ contributed u 3
+    → u.contributions 3 ≡ (if has (needed_codes (lengths u.input)) 3 then cell_of x row 3 else none) → a ≡ contributed u 3
 unfolding abbrev_part lengths shared has any
 own_part u x row [] a i q g =
     let none_there : u.contributions 3 ≡ none = g ∙ rw (needed_not (lengths u.input) 3 (ap length i)) in
@@ -124,7 +125,7 @@ module _ (i : Input) (bases : BySection ℕ) (earlier : List Filed) (good : (x :
       let w = indexed i four home at (length u.bytes) (reading_of u) t.abbreviations u.contributions x e.0 info table o theirs filed e.1 in
       let g = row_given x i.encoding.width (lengths i) u.identity home at (length u.bytes) e.0 u.contributions w.1 e.2 in
       own_part u x e.0 (i.bytes 3) t.abbreviations (own_bytes 3) w.0
-      (g.1 3 ∙ ap (λ (j : Input). elim (has (needed_codes (lengths j)) 3) as (λ b. Option Contribution) [ true ↦ cell_of x e.0 3 | false ↦ none ]) (sym t.object))
+      (g.1 3 ∙ ap (λ (j : Input). (if has (needed_codes (lengths j)) 3 then cell_of x e.0 3 else none)) (sym t.object))
 
   pub own_abbreviations : t.abbreviations ≡ contributed u 3
   own_abbreviations = from i.cu_index refl

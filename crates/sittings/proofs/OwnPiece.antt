@@ -32,6 +32,7 @@ use Rattle.package.proofs.Inputs.{IndexRead, absent_body, index_read, opened_par
 use Rattle.package.proofs.Units.{reading_of, unit_taken}
 use Rattle.octets.proofs.Options.{some_none}
 use Rattle.sittings.proofs.Filed.{FiledIn}
+use Rattle.std.specs.Prelude.{if◌then◌else◌}
 
 -- a part that is one of the pieces, which stand from a place on
 pub record IsPiece (at : ℕ) (ps : List Piece) (k : Contribution) : Type 0 where
@@ -149,7 +150,7 @@ skipped_none table g c k q h = ⊎_elim
     (known (eqb table 1))
 
 seen_or : (seen : Bool) (table : ℕ) (m : Check (BySection (Option Contribution))) (g : BySection (Option Contribution)) (c : ℕ) (k : Contribution) → g c ≡ some k
-    → (elim seen as (λ z. Check (BySection (Option Contribution))) [ true ↦ skipped table | false ↦ m ]) ≡ pass g → m ≡ pass g
+    → (if seen then skipped table else m) ≡ pass g → m ≡ pass g
 seen_or true table m g c k h q = absurd (skipped_none table g c k q h)
 seen_or false table m g c k h q = q
 

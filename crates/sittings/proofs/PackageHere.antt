@@ -24,6 +24,7 @@ use Rattle.package.proofs.Rows.{behind_all, nothing_before}
 use Rattle.sittings.proofs.Rebased.{Both, none, more, Sees}
 use Rattle.sittings.proofs.Alike.{Alike, of_home}
 use Rattle.sittings.proofs.PackageWalk.{AgainIn, walk, none_those, home_skips, home_append, under_alike}
+use Rattle.std.specs.Prelude.{if◌then◌else◌}
 
 -- ---- each kept unit is alone under its identity
 pub distinct_middle : (xs : List ℕ) (x : ℕ) (ys : List ℕ) → distinct (xs ++ (x ∷ ys)) ≡ true → has (xs ++ ys) x ≡ false
@@ -91,7 +92,7 @@ sees_alike [] (v ∷ vs) x5 t x = elim x5 [ ]
 sees_alike (u ∷ us) [] x6 t x = elim x6 [ ]
 sees_alike [] [] none t x = refl
 sees_alike (u ∷ us) (v ∷ vs) (more p b) t x =
-    ap₂ (λ (a r : Bool). elim a as (λ z. Bool) [ true ↦ true | false ↦ r ]) (sym (under_alike t x u v p)) (sees_alike us vs b t x)
+    ap₂ (λ (a r : Bool). (if a then true else r)) (sym (under_alike t x u v p)) (sees_alike us vs b t x)
 
 abbrev of : ℕ → List ℕ → Section
 of c s = record { code = c; bytes = s }

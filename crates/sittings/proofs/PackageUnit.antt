@@ -42,6 +42,7 @@ use Rattle.package.proofs.Cells.{cell_home, cell_some, cell_none}
 use Rattle.sittings.proofs.Given.{needed_is, row_given, cell_written}
 use Rattle.sittings.proofs.Local.{read_behind, unread}
 use Rattle.sittings.proofs.Alike.{Alike}
+use Rattle.std.specs.Prelude.{if◌then◌else◌}
 
 -- ---- a table of the package as an input
 pub data TableIs (big : Bool) (version : ℕ) (rs : List Row) : Option Index → Type 0 where
@@ -152,7 +153,7 @@ module _ (e : Encoding) (i : Input) (ks : List Filed) (section : BySection (List
   -- by the contributions that its row gives
   module _ (s : List ℕ) (x : Indexed big e.version rs s) (g : BySection (Option Contribution))
       (columns : all (λ c. is_some (cell_of (written e.version rs x.slots) (k + 1) c)) (u.home ∷ needed_codes (lengths i)) ≡ true)
-      (is : (c : ℕ) → g c ≡ (elim (has (needed_codes (lengths i)) c) as (λ b. Option Contribution) [ true ↦ cell_of (written e.version rs x.slots) (k + 1) c | false ↦ none ])) where
+      (is : (c : ℕ) → g c ≡ (if has (needed_codes (lengths i)) c then cell_of (written e.version rs x.slots) (k + 1) c else none)) where
     abbrev re : Filed
     re = record { table = u.table; identity = u.identity; home = u.home; bytes = u.bytes; input = i; contributions = g; bases = λ c. 0 }
 
@@ -257,10 +258,7 @@ module _ (e : Encoding) (i : Input) (ks : List Filed) (section : BySection (List
 
   -- what follows the reading
   abbrev filing : List Filed → ℕ → List ℕ → UnitRead → Check Filed
-  filing here at s r = (elim (any (is_under r.table r.identity) ([] ++ here)) as (λ b. Check (BySection (Option Contribution))) [
-    | true ↦ skipped r.table
-    | false ↦ contributions_of i u.home at r
-  ]) >>= λ g. pass (record { table = r.table; identity = r.identity; home = u.home; bytes = take r.size s; input = i; contributions = g; bases = λ c. 0 })
+  filing here at s r = (if any (is_under r.table r.identity) ([] ++ here) then skipped r.table else contributions_of i u.home at r) >>= λ g. pass (record { table = r.table; identity = r.identity; home = u.home; bytes = take r.size s; input = i; contributions = g; bases = λ c. 0 })
 
   pub unit_again : TableIs big e.version rs (index_for i u.table) → (here : List Filed) (at : ℕ) (rest : List ℕ) (v : Filed) → at ≡ place
       → any (is_under u.table u.identity) here ≡ false → unit_at i (λ c. 0) [] here u.home at (u.bytes ++ rest) ≡ pass v → Again v

@@ -22,6 +22,7 @@ use Rattle.package.specs.Pack.{rows_of, unit_bytes}
 use Rattle.package.proofs.Rows.{behind_all, nothing_before, behind_at, unit_here, unit_later, unit_append}
 use Rattle.sittings.proofs.Rebased.{Both, none, more, Sees, sees_append}
 use Rattle.sittings.proofs.Alike.{Alike, of_home}
+use Rattle.std.specs.Prelude.{if◌then◌else◌}
 
 -- a unit read again
 pub record AgainIn (i : Input) (ks : List Filed) (u v : Filed) : Type 0 where
@@ -134,4 +135,4 @@ module _ (i : Input) (ks front : List Filed) (h : ℕ) (some : (xs : List Filed)
       (known (eqb u.home h))
     where
       one : (t x : ℕ) (u v : Filed) → Alike u v → any (is_under t x) (v ∷ []) ≡ any (is_under t x) (u ∷ [])
-      one t x u v p = unfold any in (ap (λ (b : Bool). elim b as (λ b. Bool) [ true ↦ true | false ↦ false ]) (sym (under_alike t x u v p)))
+      one t x u v p = unfold any in (ap (λ (b : Bool). (if b then true else false)) (sym (under_alike t x u v p)))

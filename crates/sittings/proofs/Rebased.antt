@@ -22,6 +22,7 @@ use Rattle.package.specs.Input.{Input, input_of}
 use Rattle.package.proofs.Units.{unit_taken}
 use Rattle.sittings.proofs.Filed.{FiledIn, sections_each}
 use Rattle.package.specs.Filing.{Filed, Filing, is_under, abbreviations_for, contributions_of, skipped, unit_at, units_from, units_in, grown, filing_from}
+use Rattle.std.specs.Prelude.{if◌then◌else◌}
 
 -- a unit whose object's sections begin elsewhere
 unfoldable pub rebased : BySection ℕ → Filed → Filed
@@ -37,7 +38,7 @@ sees_append us us' vs vs' p q t x = any_append (is_under t x) us vs ∙ ap₂ (�
 pub sees_rebased : (bases : BySection ℕ) (us : List Filed) → Sees us (map (rebased bases) us)
 unfolding any is_under rebased
 sees_rebased bases [] t x = refl
-sees_rebased bases (u ∷ us) t x = ap (λ (r : Bool). elim (is_under t x u) as (λ z. Bool) [ true ↦ true | false ↦ r ]) (sees_rebased bases us t x)
+sees_rebased bases (u ∷ us) t x = ap (λ (r : Bool). (if is_under t x u then true else r)) (sees_rebased bases us t x)
 
 module _ (i : Input) (bases bases' : BySection ℕ) (earlier earlier' : List Filed) where
   unit_rebased : (here here' : List Filed) (home at : ℕ) (s : List ℕ) (u : Filed) → Sees (earlier ++ here) (earlier' ++ here')
@@ -45,10 +46,7 @@ module _ (i : Input) (bases bases' : BySection ℕ) (earlier earlier' : List Fil
   unfolding unit_at rebased
   unit_rebased here here' home at s u sees q =
       let x = bind_pass (unit_by i.encoding home (abbreviations_for i home at) s) _ u q in
-      let judged : Bool → Check (BySection (Option Contribution)) = λ t. elim t as (λ z. Check (BySection (Option Contribution))) [
-        | true ↦ skipped x.0.table
-        | false ↦ contributions_of i home at x.0
-      ] in
+      let judged : Bool → Check (BySection (Option Contribution)) = λ t. (if t then skipped x.0.table else contributions_of i home at x.0) in
       let k = bind_pass (judged (any (is_under x.0.table x.0.identity) (earlier ++ here))) _ u x.2 in
       then_pass _ _ x.0 x.1
       ∙ then_pass _ _ k.0 (ap judged (sym (sees x.0.table x.0.identity)) ∙ k.1) ∙ ap (λ (v : Filed). pass (rebased bases' v)) (pass_inj k.2)

@@ -1,6 +1,6 @@
 -- Packing in two sittings: a bundle is packed, and its package's object, with further objects behind it, is packed again.
 -- Assumes nothing.
-use Rattle.std.specs.Prelude.{◌≡◌, Bool, List, [], ◌++◌, map, ℕ, ◌*◌, ◌/◌, ◌≤◌, ◌<◌, length, get_or}
+use Rattle.std.specs.Prelude.{◌≡◌, Bool, List, [], ◌++◌, map, ℕ, ◌*◌, ◌/◌, ◌≤◌, ◌<◌, length, slice_index}
 use Rattle.numbers.specs.Limits.{bundle_limit, work_for_word}
 use Rattle.octets.specs.Octets.{part}
 use Rattle.octets.specs.Checked.{pass}
@@ -26,7 +26,7 @@ pub record Holds (b : List ℕ) (big : Bool) (os : List Sections) : Type 0 where
 -- ---- one sitting
 -- a bundle of bytes that holds these objects is packed with some work and output, and accepted
 pub record Sitting (big : Bool) (os : List Sections) (b p : List ℕ) : Type 0 where
-  pub are_bytes : (i : ℕ) → get_or b i 0 < 256
+  pub are_bytes : (i : ℕ) → slice_index b i < 256
   pub holds : Holds b big os
   pub work : ℕ
   pub output : ℕ

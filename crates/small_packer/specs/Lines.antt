@@ -1,10 +1,10 @@
 -- "each package word as 8 upper-case hexadecimal digits", with a newline.
 -- Assumes nothing.
-use Rattle.std.specs.Prelude.{true, false, List, [], ◌∷◌, ℕ, ◌+◌, ◌/◌, ◌%◌, ltb}
+use Rattle.std.specs.Prelude.{true, false, List, [], ◌∷◌, ℕ, ◌+◌, ◌/◌, ◌%◌, nat_lt, if◌then◌else◌}
 
 -- the character of a digit: 0 to 9 from 48 on, A to F from 65 on
 unfoldable pub digit_of : ℕ → ℕ
-digit_of d = elim (ltb d 10) [ true ↦ 48 + d | false ↦ 55 + d ]
+digit_of d = if nat_lt d 10 then 48 + d else 55 + d
 
 unfoldable pub line_of : ℕ → List ℕ
 line_of word =

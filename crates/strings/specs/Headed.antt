@@ -1,7 +1,7 @@
 -- A str_offsets section piece by piece, as code walks it: in version 5 each piece has its own header, which states how long it is; in version 4 the section
 -- is one piece. Nothing here need be believed: laws say that the pieces which 8 let pass are these.
 -- Assumes nothing.
-use Rattle.std.specs.Prelude.{◌≡◌, true, false, List, [], ◌∷◌, ◌++◌, ℕ, ◌+◌, ◌*◌, ◌/◌, ◌<◌, ◌≤◌, ◌^◌, eqb, length, take, drop, Result}
+use Rattle.std.specs.Prelude.{◌≡◌, true, false, List, [], ◌∷◌, ◌++◌, ℕ, ◌+◌, ◌*◌, ◌/◌, ◌<◌, ◌≤◌, ◌^◌, length, take, drop, Result, ◌==◌, if◌then◌else◌}
 use Rattle.numbers.specs.Tables.{dwarf5}
 use Rattle.numbers.specs.Limits.{string_words}
 use Rattle.numbers.specs.declared.refusals.Refusal.{Refusal}
@@ -18,7 +18,7 @@ use Rattle.strings.specs.declared.table.StringTable.{StringTable}
 
 -- how long the piece at the front of a section is, by its header
 unfoldable pub piece_size : Encoding → List ℕ → ℕ
-piece_size e s = elim (eqb e.version dwarf5) [ true ↦ length_field e + length_stated e s | false ↦ length s ]
+piece_size e s = if e.version == dwarf5 then length_field e + length_stated e s else length s
 
 -- the section is these pieces, one behind the other, none of them empty, each of the size that its header states; 8 lets each pass
 unfoldable pub Headed : Encoding → List ℕ → List (List ℕ) → Type 0

@@ -1,6 +1,6 @@
 -- The table of kept strings as the code holds it: words of a lent region, and a state by value. Nothing here need be believed.
 -- Assumes nothing.
-use Rattle.std.specs.Prelude.{◌≡◌, true, false, List, [], ◌∷◌, ◌++◌, map, ℕ, ◌+◌, ◌*◌, ◌/◌, ◌^◌, ◌<◌, ◌≤◌, ltb, length, take, get_or, Option, Some, None, Result, Ok, Err}
+use Rattle.std.specs.Prelude.{◌≡◌, true, false, List, [], ◌∷◌, ◌++◌, map, ℕ, ◌+◌, ◌*◌, ◌/◌, ◌^◌, ◌<◌, ◌≤◌, length, take, Option, Some, None, Result, Ok, Err, nat_lt, slice_index, slice_index_or}
 use Rattle.numbers.specs.Limits.{section_limit, string_words}
 use Rattle.numbers.specs.Refused.{number_of}
 use Rattle.numbers.specs.declared.refusals.Refusal.{Refusal}
@@ -21,13 +21,13 @@ Inside b p = p.start + p.size ≤ length b
 
 -- where the string of row i lies in the bundle
 abbrev pub row_place : List ℕ → ℕ → Place
-row_place region i = record { start = get_or region (3 * i) 0; size = get_or region (3 * i + 1) 0 }
+row_place region i = record { start = slice_index region (3 * i); size = slice_index region (3 * i + 1) }
 
 -- three words for string i of the table: where it lies in the bundle, its length, its offset in str
 pub record RowHeld (b region : List ℕ) (table : List (List ℕ)) (i : ℕ) : Type 0 where
   pub fits : Inside b (row_place region i)
-  pub bytes : bytes_at b (row_place region i) ≡ get_or table i []
-  pub place : get_or region (3 * i + 2) 0 ≡ length (str_of (take i table))
+  pub bytes : bytes_at b (row_place region i) ≡ slice_index_or table i []
+  pub place : slice_index region (3 * i + 2) ≡ length (str_of (take i table))
 
 -- the first n rows of the region are a table, no string of it stands there twice, and links and roots are its index
 pub record Held (b region : List ℕ) (n : ℕ) (table : List (List ℕ)) : Type 0 where
@@ -60,7 +60,7 @@ places_of used = map (offset_in (first_uses used)) used
 pub record Kept (b region : List ℕ) (t : StringTable) (used : List (List ℕ)) : Type 0 where
   pub full : string_words * t.room ≡ length region
   pub few : t.entries ≤ length used
-  pub over : t.over ≡ ltb section_limit (length (str_of (first_uses used)))
+  pub over : t.over ≡ nat_lt section_limit (length (str_of (first_uses used)))
   pub size : t.over ≡ false → t.size ≡ length (str_of (first_uses used))
   pub held : t.over ≡ false → Held b region t.count (first_uses used)
   pub entries : t.over ≡ false → t.entries ≡ length used

@@ -1,6 +1,6 @@
 -- What is remembered of an object's str, by the start of a string: a word for each byte, 0 where nothing is known.
 -- Assumes nothing.
-use Rattle.std.specs.Prelude.{◌≡◌, true, false, List, ℕ, ◌+◌, ◌<◌, ◌≤◌, length, get_or}
+use Rattle.std.specs.Prelude.{◌≡◌, true, false, List, ℕ, ◌+◌, ◌<◌, ◌≤◌, length, slice_index}
 use Rattle.numbers.specs.Refusals.{no_string}
 use Rattle.octets.specs.Lists.{any, same}
 use Rattle.octets.specs.Checked.{pass}
@@ -11,7 +11,7 @@ use Rattle.strings.specs.declared.table.StringTable.{StringTable}
 
 -- a word that is not 0 tells something of the string that starts there
 pub record Remembered (str : List ℕ) (told : List ℕ → ℕ → Type 0) (memo : List ℕ) : Type 0 where
-  pub known : (o : ℕ) → o < length str → (get_or memo o 0 ≡ 0 → ⊥) → (s : List ℕ) × (string_at no_string str o ≡ pass s) × told s (get_or memo o 0)
+  pub known : (o : ℕ) → o < length str → (slice_index memo o ≡ 0 → ⊥) → (s : List ℕ) × (string_at no_string str o ≡ pass s) × told s (slice_index memo o)
 
 -- the string is one of the table's, and the word is its place in the package's str, and one more
 unfoldable pub place_is : List (List ℕ) → List ℕ → ℕ → Type 0
@@ -25,5 +25,5 @@ pub record Putting (b : List ℕ) (strings : Place) (region memo : List ℕ) (t 
 -- so many bytes stand up to the last zero byte, itself included; none where there is no zero byte
 pub record LastZero (s : List ℕ) (n : ℕ) : Type 0 where
   pub within : n ≤ length s
-  pub last : (i : ℕ) → n ≡ i + 1 → get_or s i 0 ≡ 0
-  pub behind : (i : ℕ) → n ≤ i → i < length s → get_or s i 0 ≡ 0 → ⊥
+  pub last : (i : ℕ) → n ≡ i + 1 → slice_index s i ≡ 0
+  pub behind : (i : ℕ) → n ≤ i → i < length s → slice_index s i ≡ 0 → ⊥

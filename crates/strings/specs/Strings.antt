@@ -1,6 +1,6 @@
 -- Strings reached by str_offsets, in order of first use.
 -- Assumes nothing.
-use Rattle.std.specs.Prelude.{Bool, true, false, ◌&&◌, ◌||◌, List, [], ◌∷◌, ◌++◌, map, ℕ, ◌+◌, ◌-◌, ◌/◌, ◌%◌, eqb, leb, length, take, drop}
+use Rattle.std.specs.Prelude.{Bool, true, false, ◌&&◌, ◌||◌, List, [], ◌∷◌, ◌++◌, map, ℕ, ◌+◌, ◌-◌, ◌/◌, ◌%◌, length, take, drop, ◌==◌, nat_le, if◌then◌else◌}
 use Rattle.numbers.specs.Tables.{dwarf5}
 use Rattle.numbers.specs.Refusals.{bad_str_offsets, no_string}
 use Rattle.octets.specs.Octets.{number_at, numbers_in, numbers_of}
@@ -11,16 +11,15 @@ use Rattle.bundle.specs.InitialLength.{marked, length_field, length_stated}
 
 -- "Version 5 str_offsets has a header of 8 bytes (width 4) or 16 (width 8)"; version 4 has none
 unfoldable pub header_size : Encoding → ℕ
-header_size e = elim (eqb e.version dwarf5) [ true ↦ e.width + e.width | false ↦ 0 ]
+header_size e = if e.version == dwarf5 then e.width + e.width else 0
 
 -- "the length of the rest, 5, 0"; a length of 8 bytes stands behind FFFFFFFF
 unfoldable pub header_true : Encoding → List ℕ → Bool
 header_true e s =
-    elim (eqb e.version dwarf5) [
-      | true ↦ leb (length_field e + 4) (length s) && (eqb e.width 4 || marked e.big s) && eqb (length_stated e s) (length s - length_field e)
-          && eqb (number_at e.big 2 s (length_field e)) dwarf5 && eqb (number_at e.big 2 s (length_field e + 2)) 0
-      | false ↦ true
-    ]
+    if e.version == dwarf5
+    then nat_le (length_field e + 4) (length s) && (e.width == 4 || marked e.big s) && length_stated e s == length s - length_field e
+              && number_at e.big 2 s (length_field e) == dwarf5 && number_at e.big 2 s (length_field e + 2) == 0
+    else true
 
 -- the whole entries behind the header
 unfoldable pub entries_in : Encoding → List ℕ → List ℕ
@@ -30,13 +29,13 @@ entries_in e s = numbers_in e.big e.width ((length s - header_size e) / e.width)
 unfoldable pub entries_of : Encoding → List ℕ → Check (List ℕ)
 entries_of e s = do
   _ ← require (header_true e s) bad_str_offsets
-  _ ← require (eqb ((length s - header_size e) % e.width) 0) bad_str_offsets
+  _ ← require ((length s - header_size e) % e.width == 0) bad_str_offsets
   pass (entries_in e s)
 
 -- the bytes up to a zero byte; the number where there is none
 unfoldable pub up_to_zero : ℕ → List ℕ → Check (List ℕ)
 up_to_zero n [] = refuse n
-up_to_zero n (b ∷ s) = elim (eqb b 0) [ true ↦ pass [] | false ↦ up_to_zero n s >>= λ t. pass (b ∷ t) ]
+up_to_zero n (b ∷ s) = if b == 0 then pass [] else up_to_zero n s >>= λ t. pass (b ∷ t)
 
 -- 9 (26 in a lookup): an entry names the bytes in str up to a zero byte; nothing stands at an offset beyond str
 unfoldable pub string_at : ℕ → List ℕ → ℕ → Check (List ℕ)
@@ -49,7 +48,7 @@ strings_at str (o ∷ os) = string_at no_string str o >>= λ s. (strings_at str 
 
 -- "The table behaves as a map filled in order of first use": a new string goes to the end, a known one changes nothing
 unfoldable pub put : List (List ℕ) → List ℕ → List (List ℕ)
-put table s = elim (any (same s) table) [ true ↦ table | false ↦ table ++ (s ∷ []) ]
+put table s = if any (same s) table then table else table ++ (s ∷ [])
 
 unfoldable pub put_all : List (List ℕ) → List (List ℕ) → List (List ℕ)
 put_all table [] = table
@@ -70,7 +69,7 @@ str_of table = joined (map ended table)
 -- where a string of the table stands in it; behind them all where it is none of them
 unfoldable pub offset_in : List (List ℕ) → List ℕ → ℕ
 offset_in [] s = 0
-offset_in (t ∷ ts) s = elim (same s t) [ true ↦ 0 | false ↦ length t + 1 + offset_in ts s ]
+offset_in (t ∷ ts) s = if same s t then 0 else length t + 1 + offset_in ts s
 
 -- the str_offsets section of an object by the table: the header as it was, and for each string its place
 unfoldable pub remapped : Encoding → List (List ℕ) → List ℕ → List (List ℕ) → List ℕ

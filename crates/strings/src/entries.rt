@@ -1,5 +1,5 @@
 // Entries of a str_offsets section (8), and the string that stands at an offset of str (9).
-ghost use Rattle.std.specs.Prelude.{◌≡◌, ◌&&◌, ◌||◌, ℕ, ◌+◌, ◌≤◌, ◌<◌, eqb, length, get_or};
+ghost use Rattle.std.specs.Prelude.{◌≡◌, ◌&&◌, ◌||◌, ℕ, ◌+◌, ◌≤◌, ◌<◌, length, ◌==◌, slice_index};
 ghost use Rattle.numbers.specs.Tables.{dwarf5};
 ghost use Rattle.numbers.specs.Refused.{told};
 ghost use Rattle.octets.specs.Octets.{number_at};
@@ -49,7 +49,7 @@ impl Section<'_> {
     // The version and the padding, 5 and 0, behind the length of a header.
     fn version_true(self, at: usize) -> bool
         requires { at + 4 ≤ length self.bytes.now }
-        ensures { result ≡ (eqb (number_at self.entry.encoding.big 2 self.entry.bytes.now at) dwarf5 && eqb (number_at self.entry.encoding.big 2 self.entry.bytes.now (at + 2)) 0) }
+        ensures { result ≡ (number_at self.entry.encoding.big 2 self.entry.bytes.now at == dwarf5 && number_at self.entry.encoding.big 2 self.entry.bytes.now (at + 2) == 0) }
     {
         let big = self.encoding.big;
         octets::u16_at(big, self.bytes, at) == VERSION
@@ -59,7 +59,7 @@ impl Section<'_> {
     // A length of 8 bytes stands behind FFFFFFFF.
     #[tactic(auto, using(bundle::proofs::InitialLengths::is_wide, bundle::proofs::InitialLengths::is_narrow))]
     fn mark_true(self) -> bool
-        ensures { result ≡ (eqb (encoding_is self.entry.encoding).width 4 || marked self.entry.encoding.big self.entry.bytes.now) }
+        ensures { result ≡ ((encoding_is self.entry.encoding).width == 4 || marked self.entry.encoding.big self.entry.bytes.now) }
     {
         !self.encoding.wide || initial_length::is_marked(self.encoding.big, self.bytes)
     }
@@ -110,7 +110,7 @@ impl Section<'_> {
     #[tactic(auto, using(crate::proofs::Headers::entry_reads), unfolding(bundle::specs::Encoded::encoding_is))]
     pub fn entry_at(self, k: usize) -> u64
         requires { k < length (entries_in (encoding_is self.encoding) self.bytes.now) }
-        ensures { result ≡ get_or (entries_in (encoding_is self.entry.encoding) self.entry.bytes.now) k 0 }
+        ensures { result ≡ slice_index (entries_in (encoding_is self.entry.encoding) self.entry.bytes.now) k }
     {
         let w = self.encoding.width();
         let at = self.header_size() + w * k;

@@ -19,6 +19,7 @@ use Rattle.leb128.proofs.Taken.{short_taken, only_short}
 use Rattle.unit.specs.Abbreviations.{Attribute, attribute_at, attributes_then, attributes_from, attributes_of}
 use Rattle.unit.specs.Tables.{attributes_size}
 use Rattle.unit.proofs.Sizes.{further, further_none}
+use Rattle.std.specs.Prelude.{if◌then◌else◌}
 
 -- ---- one attribute
 module _ (a b : ℕ) where
@@ -26,7 +27,7 @@ module _ (a b : ℕ) where
   unfolding zero_together
   together = go (eqb a 0) (eqb b 0)
     where
-      go : (p q : Bool) → not (beq p q) ≡ false → elim p [ true ↦ q | false ↦ not q ] ≡ true
+      go : (p q : Bool) → not (beq p q) ≡ false → (if p then q else not q) ≡ true
       go true true h = refl
       go true false h = sym h
       go false true h = sym h
@@ -36,7 +37,7 @@ module _ (a b : ℕ) where
   unfolding zero_together
   apart = go (eqb a 0) (eqb b 0)
     where
-      go : (p q : Bool) → not (beq p q) ≡ true → elim p [ true ↦ q | false ↦ not q ] ≡ false
+      go : (p q : Bool) → not (beq p q) ≡ true → (if p then q else not q) ≡ false
       go true true h = sym h
       go true false h = refl
       go false true h = refl
@@ -95,7 +96,7 @@ only_attribute_at s =
 then_same : (a : Attribute) (n : ℕ) (f g : ℕ → Check (List Attribute × ℕ)) → f n ≡ g n → attributes_then a n f ≡ attributes_then a n g
 unfolding attributes_then
 then_same a n f g e =
-    ap (λ (x : Check (List Attribute × ℕ)). elim (eqb a.name 0) [ true ↦ pass ([], n) | false ↦ x >>= λ r. pass (a ∷ r.0, n + r.1) ]) e
+    ap (λ (x : Check (List Attribute × ℕ)). if eqb a.name 0 then pass ([], n) else x >>= λ r. pass (a ∷ r.0, n + r.1)) e
 
 attributes_nil : (k : ℕ) → attributes_from k [] ≡ refuse 12
 unfolding attributes_from attribute_at short groups ◌>>=◌

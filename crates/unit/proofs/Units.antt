@@ -18,6 +18,7 @@ use Rattle.unit.proofs.Plain.{plain, unit_plain}
 use Rattle.unit.specs.Headers.{fits, unit_inside, common_good, five_kind, kind_of, header_size, signature_at, table_at, identity_by}
 use Rattle.unit.specs.declared.header.Kind.{Kind}
 use Rattle.unit.specs.declared.header.Kind.TheVariants.{Compilation, Signature, Root, Other}
+use Rattle.std.specs.Prelude.{if◌then◌else◌}
 
 -- ---- the identity, by its kind
 unfoldable pub by_kind : Encoding → Kind → List ℕ → List ℕ → Check Identity
@@ -34,14 +35,8 @@ kinds e home a u = go (is_five e) (eqb t 4 || eqb t 5) (eqb t 2 || eqb t 6) (eqb
     t = get_or u (length_field e + 2) 0
 
     go : (five first second info : Bool)
-        → elim five [
-          | true ↦ elim first [ true ↦ behind_common e 1 8 u | false ↦ elim second [ true ↦ behind_common e 2 (8 + e.width) u | false ↦ refuse 12 ] ]
-          | false ↦ elim info [ true ↦ by_kind e Root a u | false ↦ behind_common e 2 (8 + e.width) u ]
-        ]
-        ≡ by_kind e (elim five [
-          | true ↦ elim first [ true ↦ Compilation | false ↦ elim second [ true ↦ Signature | false ↦ Other ] ]
-          | false ↦ elim info [ true ↦ Root | false ↦ Signature ]
-        ]) a u
+        → (if five then if first then behind_common e 1 8 u else if second then behind_common e 2 (8 + e.width) u else refuse 12 else if info then by_kind e Root a u else behind_common e 2 (8 + e.width) u)
+        ≡ by_kind e (if five then if first then Compilation else if second then Signature else Other else if info then Root else Signature) a u
     go true true second info = refl
     go true false true info = refl
     go true false false info = refl

@@ -1,6 +1,6 @@
 -- "The abbreviation table at the header's offset in abbrev is read to its zero code." Every fault gives 12.
 -- Assumes nothing.
-use Rattle.std.specs.Prelude.{true, false, not, ◌&&◌, List, [], ◌∷◌, map, ℕ, zero, suc, ◌+◌, eqb, leb, length, drop, get_or}
+use Rattle.std.specs.Prelude.{true, false, not, ◌&&◌, List, [], ◌∷◌, map, ℕ, zero, suc, ◌+◌, length, drop, ◌==◌, nat_le, slice_index, if◌then◌else◌}
 use Rattle.std.proofs.Math.Option.{Option, some, none}
 use Rattle.numbers.specs.Refusals.{no_identity}
 use Rattle.octets.specs.Lists.{distinct, zero_together}
@@ -22,16 +22,13 @@ attribute_at s = do
   name ← short s
   form ← short (drop name.1 s)
   _ ← require (zero_together name.0 form.0) no_identity
-  _ ← require (not (eqb form.0 0x21)) no_identity
+  _ ← require (not (form.0 == 0x21)) no_identity
   pass (record { name = name.0; form = form.0 }, name.1 + form.1)
 
 -- the pair of zeros is the last one
 unfoldable pub attributes_then : Attribute → ℕ → (ℕ → Check (List Attribute × ℕ)) → Check (List Attribute × ℕ)
 attributes_then a n rest =
-    elim (eqb a.name 0) [
-      | true ↦ pass ([], n)
-      | false ↦ rest n >>= λ r. pass (a ∷ r.0, n + r.1)
-    ]
+    if a.name == 0 then pass ([], n) else rest n >>= λ r. pass (a ∷ r.0, n + r.1)
 
 -- a declaration's attributes, and how many bytes they take; the first argument bounds the number of steps
 unfoldable pub attributes_from : ℕ → List ℕ → Check (List Attribute × ℕ)
@@ -45,19 +42,18 @@ attributes_of s = attributes_from (length s) s
 unfoldable pub declaration_at : ℕ → List ℕ → Check (Declaration × ℕ)
 declaration_at code s = do
   tag ← short s
-  _ ← require (not (eqb tag.0 0)) no_identity
+  _ ← require (not (tag.0 == 0)) no_identity
   let t = drop tag.1 s
-  _ ← require (leb 1 (length t) && leb (get_or t 0 0) 1) no_identity
+  _ ← require (nat_le 1 (length t) && nat_le (slice_index t 0) 1) no_identity
   attributes ← attributes_of (drop 1 t)
   pass (record { code = code; tag = tag.0; attributes = attributes.0 }, tag.1 + 1 + attributes.1)
 
 -- a code of zero ends the table
 unfoldable pub declarations_then : ℕ → List ℕ → (List ℕ → Check (List Declaration)) → Check (List Declaration)
 declarations_then code s rest =
-    elim (eqb code 0) [
-      | true ↦ pass []
-      | false ↦ declaration_at code s >>= λ d. (rest (drop d.1 s) >>= λ ds. pass (d.0 ∷ ds))
-    ]
+    if code == 0
+    then pass []
+    else declaration_at code s >>= λ d. (rest (drop d.1 s) >>= λ ds. pass (d.0 ∷ ds))
 
 unfoldable pub declarations_from : ℕ → List ℕ → Check (List Declaration)
 declarations_from zero s = refuse no_identity
@@ -72,4 +68,4 @@ declarations_of s = do
 
 unfoldable pub declaration_of : List Declaration → ℕ → Option Declaration
 declaration_of [] c = none
-declaration_of (d ∷ ds) c = elim (eqb d.code c) [ true ↦ some d | false ↦ declaration_of ds c ]
+declaration_of (d ∷ ds) c = if d.code == c then some d else declaration_of ds c

@@ -1,6 +1,6 @@
 -- "The widths of forms are one table, of the DWARF 4 forms plus 1F01 and 1F02 hexadecimal (both ULEB128)."
 -- Assumes nothing.
-use Rattle.std.specs.Prelude.{true, false, List, [], ◌∷◌, ℕ, suc, ◌+◌, eqb, leb, length}
+use Rattle.std.specs.Prelude.{true, false, List, [], ◌∷◌, ℕ, suc, ◌+◌, length, ◌==◌, nat_le, if◌then◌else◌}
 use Rattle.std.proofs.Math.Option.{Option, some, none}
 use Rattle.numbers.specs.Refusals.{no_identity}
 use Rattle.octets.specs.Octets.{number_at}
@@ -40,12 +40,12 @@ forms =
 
 unfoldable pub width_in : List Form → ℕ → Option Width
 width_in [] f = none
-width_in (w ∷ ws) f = elim (eqb w.form f) [ true ↦ some w.width | false ↦ width_in ws f ]
+width_in (w ∷ ws) f = if w.form == f then some w.width else width_in ws f
 
 -- the bytes up to and with the first zero byte; 12 where there is none
 unfoldable pub zero_ended : List ℕ → Check ℕ
 zero_ended [] = refuse no_identity
-zero_ended (b ∷ s) = elim (eqb b 0) [ true ↦ pass 1 | false ↦ zero_ended s >>= λ n. pass (suc n) ]
+zero_ended (b ∷ s) = if b == 0 then pass 1 else zero_ended s >>= λ n. pass (suc n)
 
 -- how many bytes the value of a width takes at the front of s
 unfoldable pub value_size : Encoding → Width → List ℕ → Check ℕ
@@ -57,6 +57,6 @@ value_size e sleb s = signed_size s
 value_size e string s = zero_ended s
 value_size e indirect s = refuse no_identity
 value_size e (block n) s = do
-  _ ← require (leb n (length s)) no_identity
+  _ ← require (nat_le n (length s)) no_identity
   pass (n + number_at e.big n s 0)
 value_size e uleb_block s = unsigned s >>= λ r. pass (r.1 + r.0)

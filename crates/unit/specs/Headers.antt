@@ -1,6 +1,6 @@
 -- The parts of reading a unit, and what the code's values are by the definition.
 -- Assumes nothing.
-use Rattle.std.specs.Prelude.{Bool, true, false, not, ◌&&◌, ◌||◌, List, ℕ, ◌+◌, eqb, leb, length, take, drop, get_or}
+use Rattle.std.specs.Prelude.{Bool, true, false, not, ◌&&◌, ◌||◌, List, ℕ, ◌+◌, length, take, drop, ◌==◌, nat_le, slice_index, if◌then◌else◌}
 use Rattle.numbers.specs.Tabled.{table_number}
 use Rattle.numbers.specs.Tables.{type_table, type_unit, skeleton_unit, split_unit, split_type_unit, compilation_table}
 use Rattle.numbers.specs.Sections.{info_code}
@@ -18,7 +18,7 @@ use Rattle.unit.specs.declared.header.UnitRead as read
 
 -- ---- the size: a unit that ends in s
 unfoldable pub fits : List ℕ → ℕ → Check ℕ
-fits s n = require (leb n (length s)) bad_header >>= λ _. pass n
+fits s n = require (nat_le n (length s)) bad_header >>= λ _. pass n
 
 unfoldable pub unit_inside : Encoding → List ℕ → Check ℕ
 unit_inside e s = unit_size e s >>= fits s
@@ -26,20 +26,24 @@ unit_inside e s = unit_size e s >>= fits s
 -- ---- the common fields
 unfoldable pub common_good : Encoding → List ℕ → Bool
 common_good e u =
-    leb (common_size e) (length u) && (eqb (number_at e.big 2 u (length_field e)) e.version && eqb (get_or u (address_place e) 0) e.address)
+    nat_le (common_size e) (length u) && (number_at e.big 2 u (length_field e) == e.version && slice_index u (address_place e) == e.address)
 
 -- but for the address size
 unfoldable pub fields_good : Encoding → List ℕ → Bool
-fields_good e u = leb (common_size e) (length u) && eqb (number_at e.big 2 u (length_field e)) e.version
+fields_good e u = nat_le (common_size e) (length u) && number_at e.big 2 u (length_field e) == e.version
 
 -- ---- where the identity stands
 unfoldable pub five_kind : ℕ → Kind
 five_kind type =
-    elim (eqb type skeleton_unit || eqb type split_unit) [ true ↦ Compilation | false ↦ elim (eqb type type_unit || eqb type split_type_unit) [ true ↦ Signature | false ↦ Other ] ]
+    if type == skeleton_unit || type == split_unit
+    then Compilation
+    else if type == type_unit || type == split_type_unit then Signature else Other
 
 unfoldable pub kind_of : Encoding → ℕ → List ℕ → Kind
 kind_of e home u =
-    elim (is_five e) [ true ↦ five_kind (get_or u (length_field e + 2) 0) | false ↦ elim (eqb home info_code) [ true ↦ Root | false ↦ Signature ] ]
+    if is_five e
+    then five_kind (slice_index u (length_field e + 2))
+    else if home == info_code then Root else Signature
 
 -- the header that a unit of the kind must hold
 unfoldable pub header_size : Encoding → Kind → ℕ
@@ -73,16 +77,16 @@ identity_is i = record { table = table_number i.table; identity = i.identity }
 unfoldable pub head_of : Encoding → List ℕ → Check ℕ
 head_of e s = do
   size ← unit_size e s
-  _ ← require (leb size (length s)) bad_header
+  _ ← require (nat_le size (length s)) bad_header
   let u = take size s
-  _ ← require (leb (common_size e) (length u)) bad_header
-  _ ← require (eqb (number_at e.big 2 u (length_field e)) e.version) bad_header
-  _ ← require (eqb (get_or u (address_place e) 0) e.address) bad_header
+  _ ← require (nat_le (common_size e) (length u)) bad_header
+  _ ← require (number_at e.big 2 u (length_field e) == e.version) bad_header
+  _ ← require (slice_index u (address_place e) == e.address) bad_header
   pass size
 
 -- 13
 unfoldable pub non_zero : Check Identity → Check Identity
-non_zero m = m >>= λ i. (require (not (eqb i.identity 0)) identity_zero >>= λ _. pass i)
+non_zero m = m >>= λ i. (require (not (i.identity == 0)) identity_zero >>= λ _. pass i)
 
 -- 11 by the kind, 12 and 13: the identity of the unit u
 unfoldable pub identity_good : Encoding → ℕ → List ℕ → List ℕ → Check Identity
@@ -96,7 +100,9 @@ unfoldable pub with_address : Encoding → ℕ → Encoding
 with_address e a = record { big = e.big; version = e.version; width = e.width; address = a }
 
 unfoldable pub stated_address : Encoding → List ℕ → ℕ
-stated_address e s = get_or s (address_place e) 0
+stated_address e s = slice_index s (address_place e)
 
 unfoldable pub address_of : Encoding → List ℕ → Check ℕ
-address_of e s = elim (header_passes (with_address e (stated_address e s)) 1 s) [ true ↦ pass (stated_address e s) | false ↦ refuse bad_header ]
+address_of e s = if header_passes (with_address e (stated_address e s)) 1 s
+    then pass (stated_address e s)
+    else refuse bad_header

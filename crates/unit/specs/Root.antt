@@ -1,6 +1,6 @@
 -- "In info, version 4: the identity is the value of the root's first attribute 2131 hexadecimal, form data8, plain or by indirect; else 12."
 -- Assumes nothing.
-use Rattle.std.specs.Prelude.{Bool, true, false, ◌||◌, List, [], ◌∷◌, ℕ, ◌+◌, eqb, leb, length, drop}
+use Rattle.std.specs.Prelude.{Bool, true, false, ◌||◌, List, [], ◌∷◌, ℕ, ◌+◌, length, drop, ◌==◌, nat_le, if◌then◌else◌}
 use Rattle.std.proofs.Math.Option.{Option, some, none}
 use Rattle.numbers.specs.Refusals.{no_identity}
 use Rattle.octets.specs.Octets.{number_at}
@@ -26,25 +26,23 @@ unfoldable pub plain_value : Encoding → ℕ → List ℕ → Check Value
 plain_value e form s = do
   width ← needed (width_in forms form)
   size ← value_size e width s
-  _ ← require (leb size (length s)) no_identity
+  _ ← require (nat_le size (length s)) no_identity
   pass (record { form = form; start = 0; size = size })
 
 -- indirect, 16 hexadecimal, only once
 unfoldable pub value_of : Encoding → ℕ → List ℕ → Check Value
 value_of e form s =
-    elim (eqb form 0x16) [
-      | true ↦ short s >>= λ r. (plain_value e r.0 (drop r.1 s) >>= λ v. pass (record { form = v.form; start = r.1; size = v.size }))
-      | false ↦ plain_value e form s
-    ]
+    if form == 0x16
+    then (short s >>= λ r. (plain_value e r.0 (drop r.1 s) >>= λ v. pass (record { form = v.form; start = r.1; size = v.size })))
+    else plain_value e form s
 
 -- the identity once an attribute is passed: only the first attribute 2131 states it
 unfoldable pub identity_at : Encoding → ℕ → Value → List ℕ → Option ℕ → Check (Option ℕ)
 identity_at e name v s (some x) = pass (some x)
 identity_at e name v s none =
-    elim (eqb name 0x2131) [
-      | true ↦ require (eqb v.form 7) no_identity >>= λ _. pass (some (number_at e.big 8 s v.start))
-      | false ↦ pass none
-    ]
+    if name == 0x2131
+    then (require (v.form == 7) no_identity >>= λ _. pass (some (number_at e.big 8 s v.start)))
+    else pass none
 
 -- the identity that attributes state, whose values all end in s, where those before them state seen
 unfoldable pub identity_in : Encoding → List Attribute → List ℕ → Option ℕ → Check (Option ℕ)
@@ -56,7 +54,7 @@ identity_in e (a ∷ «as») s seen = do
 
 -- the root's tag is a compile or a type unit's
 unfoldable pub root_tag : ℕ → Bool
-root_tag t = eqb t 0x11 || eqb t 0x41
+root_tag t = t == 0x11 || t == 0x41
 
 -- table is what stands in abbrev at the header's offset, s the unit behind its header
 unfoldable pub root_identity : Encoding → List ℕ → List ℕ → Check ℕ

@@ -1,7 +1,7 @@
 -- A table that was judged: its declarations in a tree of their codes, whose nodes carry where in the table they stand. What was judged is remembered.
 -- These relations say what the code keeps: no definition of reading units rests on them.
 -- Assumes nothing.
-use Rattle.std.specs.Prelude.{Option, Some, None, Result, Ok, Err, IfSome, ◌≡◌, Bool, true, false, List, [], map, ℕ, ◌+◌, ◌-◌, ◌*◌, ◌/◌, ◌^◌, ◌<◌, ◌≤◌, length, take, drop, get_or}
+use Rattle.std.specs.Prelude.{Option, Some, None, Result, Ok, Err, IfSome, ◌≡◌, Bool, true, false, List, [], map, ℕ, ◌+◌, ◌-◌, ◌*◌, ◌/◌, ◌^◌, ◌<◌, ◌≤◌, length, take, drop, slice_index, slice_index_or, if◌then◌else◌}
 use Rattle.std.proofs.Math.Option.{some}
 use Rattle.octets.specs.Octets.{part}
 use Rattle.octets.specs.Checked.{pass}
@@ -37,7 +37,7 @@ pub record Declares (s : List ℕ) (at : ℕ) (d : Declaration) : Type 0 where
 
 pub record TableTree (s w : List ℕ) (ds : List Declaration) : Type 0 where
   pub tree : Tree w (codes_of ds)
-  pub declares : (k : ℕ) → k < length ds → Declares s (carried_at w k) (get_or ds k no_declaration)
+  pub declares : (k : ℕ) → k < length ds → Declares s (carried_at w k) (slice_index_or ds k no_declaration)
 
 -- the words w hold the table s, which has so many declarations
 pub record TableHeld (s w : List ℕ) (count : ℕ) : Type 0 where
@@ -86,17 +86,17 @@ head_words = 2
 
 -- the table that starts at a place of the bundle, from a word on
 unfoldable pub table_from : List ℕ → ℕ → ℕ → JudgedTable
-table_from w start at = record { place = record { at = at; end = at + get_or w (start + 1) 0 }; from = start + head_words; count = get_or w start 0 }
+table_from w start at = record { place = record { at = at; end = at + slice_index w (start + 1) }; from = start + head_words; count = slice_index w start }
 
 -- it stands behind the directory and before the free words
 pub record Stored (b w : List ℕ) (free start at : ℕ) : Type 0 where
   pub behind : directory_size b ≤ start
-  pub before : start + head_words + node_words * get_or w start 0 ≤ free
+  pub before : start + head_words + node_words * slice_index w start ≤ free
   pub held : Held b w (table_from w start at)
 
 -- the key of a run: where it starts, and whether the identity is stated before it
 unfoldable pub run_key : ℕ → Bool → ℕ
-run_key at known = at + 2 ^ 32 * elim known [ true ↦ 2 | false ↦ 1 ]
+run_key at known = at + 2 ^ 32 * (if known then 2 else 1)
 
 -- what an entry of the directory says, which carries a number under a key: where the table stands that starts there, or how many bytes a run takes
 pub record Noted (b w : List ℕ) (free carried key : ℕ) : Type 0 where
@@ -108,7 +108,7 @@ pub record Entries (b w : List ℕ) (n free : ℕ) : Type 0 where
   pub keys : List ℕ
   pub counted : length keys ≡ n
   pub tree : Tree (directory b w) keys
-  pub noted : (k : ℕ) → k < n → Noted b w free (carried_at (directory b w) k) (get_or keys k 0)
+  pub noted : (k : ℕ) → k < n → Noted b w free (carried_at (directory b w) k) (slice_index keys k)
 
 -- the last table, if there is one, is held by the words; and the tables of the directory
 unfoldable pub Remembers : List ℕ → List ℕ → Judged → Type 0

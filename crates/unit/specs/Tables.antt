@@ -1,6 +1,6 @@
 -- An abbreviation table as code reads it: where a declaration's attributes lie, and what the code's values are by the definition.
 -- Assumes nothing.
-use Rattle.std.specs.Prelude.{Option, Some, None, ◌≡◌, Bool, true, false, not, ◌&&◌, List, ℕ, ◌+◌, ◌≤◌, eqb, leb, length, drop, get_or}
+use Rattle.std.specs.Prelude.{Option, Some, None, ◌≡◌, Bool, true, false, not, ◌&&◌, List, ℕ, ◌+◌, ◌≤◌, length, drop, ◌==◌, nat_le, slice_index, if◌then◌else◌}
 use Rattle.std.proofs.Math.Option.{some, none}
 use Rattle.std.proofs.Math.Option as math
 use Rattle.octets.specs.Checked.{Check, pass, refuse, ◌>>=◌, require}
@@ -30,8 +30,8 @@ pub record Place : Type 0 where
 unfoldable pub place_at : List ℕ → Check Place
 place_at s = do
   tag ← short s
-  _ ← require (not (eqb tag.0 0)) no_identity
-  _ ← require (leb 1 (length (drop tag.1 s)) && leb (get_or (drop tag.1 s) 0 0) 1) no_identity
+  _ ← require (not (tag.0 == 0)) no_identity
+  _ ← require (nat_le 1 (length (drop tag.1 s)) && nat_le (slice_index (drop tag.1 s) 0) 1) no_identity
   size ← attributes_size (drop 1 (drop tag.1 s))
   pass (record { tag = tag.0; start = tag.1 + 1; end = tag.1 + 1 + size })
 
@@ -44,10 +44,9 @@ pub record Coded : Type 0 where
 
 -- the declaration at the front of s, or none at the zero code
 unfoldable pub declared_at : List ℕ → Check (math.Option Coded)
-declared_at s = unsigned s >>= λ c. elim (eqb c.0 0) [
-  | true ↦ pass none
-  | false ↦ place_at (drop c.1 s) >>= λ p. pass (some (record { code = c.0; place = record { tag = p.tag; start = c.1 + p.start; end = c.1 + p.end } }))
-]
+declared_at s = unsigned s >>= λ c. if c.0 == 0
+    then pass none
+    else place_at (drop c.1 s) >>= λ p. pass (some (record { code = c.0; place = record { tag = p.tag; start = c.1 + p.start; end = c.1 + p.end } }))
 
 abbrev pub declared_is : Option declared.Declaration → math.Option Coded
 declared_is (Some d) = some (record { code = d.code; place = place_is d.place })

@@ -2,7 +2,7 @@
 -- and high word. Node 0 is the root, which no link names. At each step the lowest bit that is left of a code says where it goes on.
 -- These relations say what the code keeps: no definition of reading units rests on them.
 -- Assumes nothing.
-use Rattle.std.specs.Prelude.{◌≡◌, Bool, true, false, List, [], ◌∷◌, ◌++◌, ℕ, zero, suc, ◌+◌, ◌*◌, ◌/◌, ◌%◌, ◌^◌, ◌<◌, ◌≤◌, length, get_or, Option, Some, None, Result, Ok, Err}
+use Rattle.std.specs.Prelude.{◌≡◌, Bool, true, false, List, [], ◌∷◌, ◌++◌, ℕ, zero, suc, ◌+◌, ◌*◌, ◌/◌, ◌%◌, ◌^◌, ◌<◌, ◌≤◌, length, Option, Some, None, Result, Ok, Err, slice_index}
 use Rattle.octets.specs.Lists.{has}
 
 abbrev pub node_words : ℕ
@@ -10,13 +10,13 @@ node_words = 5
 
 -- ---- a node
 unfoldable pub code_at : List ℕ → ℕ → ℕ
-code_at w k = get_or w (node_words * k + 3) 0 + 2 ^ 32 * get_or w (node_words * k + 4) 0
+code_at w k = slice_index w (node_words * k + 3) + 2 ^ 32 * slice_index w (node_words * k + 4)
 
 unfoldable pub carried_at : List ℕ → ℕ → ℕ
-carried_at w k = get_or w (node_words * k + 2) 0
+carried_at w k = slice_index w (node_words * k + 2)
 
 unfoldable pub next_at : List ℕ → ℕ → ℕ → ℕ
-next_at w k rest = get_or w (node_words * k + rest % 2) 0
+next_at w k rest = slice_index w (node_words * k + rest % 2)
 
 -- the words of a node without links
 unfoldable pub node_of : ℕ → ℕ → List ℕ
@@ -36,18 +36,18 @@ pub record Reached (w : List ℕ) (code k : ℕ) : Type 0 where
 -- the links of the first n nodes lead to later ones among them: so every walk ends
 pub record Rising (w : List ℕ) (n : ℕ) : Type 0 where
   pub room : node_words * n ≤ length w
-  pub later : (k b : ℕ) → k < n → b < 2 → (get_or w (node_words * k + b) 0 ≡ 0 → ⊥) → k < get_or w (node_words * k + b) 0
-  pub among : (k b : ℕ) → k < n → b < 2 → get_or w (node_words * k + b) 0 < n
+  pub later : (k b : ℕ) → k < n → b < 2 → (slice_index w (node_words * k + b) ≡ 0 → ⊥) → k < slice_index w (node_words * k + b)
+  pub among : (k b : ℕ) → k < n → b < 2 → slice_index w (node_words * k + b) < n
 
 -- v has the links of the first n nodes of w that lead somewhere
 pub record Linked (n : ℕ) (w v : List ℕ) : Type 0 where
-  pub same : (q : ℕ) → q < node_words * n → (get_or w q 0 ≡ 0 → ⊥) → get_or v q 0 ≡ get_or w q 0
+  pub same : (q : ℕ) → q < node_words * n → (slice_index w q ≡ 0 → ⊥) → slice_index v q ≡ slice_index w q
 
 -- ---- the tree of codes: each is found by its own walk
 pub record Tree (w cs : List ℕ) : Type 0 where
   pub rising : Rising w (length cs)
-  pub codes : (k : ℕ) → k < length cs → code_at w k ≡ get_or cs k 0
-  pub reached : (k : ℕ) → k < length cs → Reached w (get_or cs k 0) k
+  pub codes : (k : ℕ) → k < length cs → code_at w k ≡ slice_index cs k
+  pub reached : (k : ℕ) → k < length cs → Reached w (slice_index cs k) k
 
 -- the walk of a code ends at an empty link: no node of the code is reached, and a node that hangs from the link would be
 pub record EndsFree (w : List ℕ) (n code link : ℕ) : Type 0 where
@@ -56,9 +56,9 @@ pub record EndsFree (w : List ℕ) (n code link : ℕ) : Type 0 where
   pub is : link ≡ node_words * node + side
   pub inside : node < n
   pub left_right : side < 2
-  pub free : get_or w link 0 ≡ 0
+  pub free : slice_index w link ≡ 0
   pub none : (k : ℕ) → code_at w k ≡ code → Reached w code k → ⊥
-  pub hangs : (v : List ℕ) → Linked n w v → (get_or v link 0 ≡ 0 → ⊥) → Reached v code (get_or v link 0)
+  pub hangs : (v : List ℕ) → Linked n w v → (slice_index v link ≡ 0 → ⊥) → Reached v code (slice_index v link)
 
 unfoldable pub Ends : List ℕ → ℕ → ℕ → Result ℕ ℕ → Type 0
 Ends w n code (Ok k) = (k < n) × (code_at w k ≡ code)

@@ -1,6 +1,6 @@
 -- "Units of types, and unit types 2 and 6 of version 5, are handed in for the type table, the others for the compilation table".
 -- Assumes nothing.
-use Rattle.std.specs.Prelude.{◌≡◌, ◌⊎◌, List, ℕ, ◌+◌, get_or}
+use Rattle.std.specs.Prelude.{◌≡◌, ◌⊎◌, List, ℕ, ◌+◌, slice_index}
 use Rattle.numbers.specs.Sections.{types_code}
 use Rattle.numbers.specs.Tables.{dwarf5, type_unit, split_type_unit}
 use Rattle.bundle.specs.Encoding.{Encoding}
@@ -8,7 +8,7 @@ use Rattle.bundle.specs.InitialLength.{length_field}
 
 -- the unit type of version 5: it stands behind the length and 2 bytes of version
 unfoldable pub unit_type : Encoding → List ℕ → ℕ
-unit_type e u = get_or u (length_field e + 2) 0
+unit_type e u = slice_index u (length_field e + 2)
 
 -- home is the section's code; u is the unit's own bytes
 abbrev pub IsTypeUnit : Encoding → ℕ → List ℕ → Type 0

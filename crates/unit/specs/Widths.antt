@@ -1,6 +1,6 @@
 -- The code's form of a width, and the size of a value that ends in the bytes at hand.
 -- Assumes nothing.
-use Rattle.std.specs.Prelude.{Bool, List, ℕ, ◌+◌, leb, length}
+use Rattle.std.specs.Prelude.{Bool, List, ℕ, ◌+◌, length, nat_le}
 use Rattle.numbers.specs.Refusals.{no_identity}
 use Rattle.octets.specs.Octets.{number_at}
 use Rattle.octets.specs.Checked.{Check, pass, ◌>>=◌, require}
@@ -29,7 +29,7 @@ form_is f = record { form = f.form; width = width_is f.width }
 
 -- so many bytes, which are there
 unfoldable pub ends : List ℕ → ℕ → Check ℕ
-ends s n = require (leb n (length s)) no_identity >>= λ _. pass n
+ends s n = require (nat_le n (length s)) no_identity >>= λ _. pass n
 
 -- how many bytes the value of a width takes, where it ends in s
 unfoldable pub size_within : Encoding → Width → List ℕ → Check ℕ
@@ -39,7 +39,7 @@ unfoldable pub uleb_within : List ℕ → Check ℕ
 uleb_within s = unsigned s >>= (λ r. pass r.1) >>= ends s
 
 unfoldable pub block_within : Bool → ℕ → List ℕ → Check ℕ
-block_within big n s = require (leb n (length s)) no_identity >>= (λ _. pass (n + number_at big n s 0)) >>= ends s
+block_within big n s = require (nat_le n (length s)) no_identity >>= (λ _. pass (n + number_at big n s 0)) >>= ends s
 
 unfoldable pub uleb_block_within : List ℕ → Check ℕ
 uleb_block_within s = unsigned s >>= (λ r. pass (r.1 + r.0)) >>= ends s
