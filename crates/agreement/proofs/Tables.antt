@@ -1,5 +1,4 @@
 -- The index of a table: what it has, and that there is no other.
--- Assumes nothing.
 use mathlib.Core.Path.{◌≡◌, refl, sym, ap, ◌∙◌, transport}
 use mathlib.Core.Bool.{Bool, true, false, beq, ◌&&◌}
 use mathlib.Core.List.{List}

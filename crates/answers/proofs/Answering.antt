@@ -1,5 +1,4 @@
 -- The three answers of a check for an output of o bytes, in numbers and in what the output holds.
--- Assumes nothing.
 use mathlib.Core.Path.{◌≡◌, sym, ap, ◌∙◌}
 use mathlib.Core.List.{List}
 use Prim.Native.Nat.{ℕ, ◌-◌, ◌<◌, ◌≤◌}

@@ -1,5 +1,4 @@
 -- The three kinds of answer of a call that writes into a lent output: a refusal's number, the length needed where the output is too short, and what is written.
--- Assumes nothing.
 use Rattle.std.specs.Prelude.{true, false, List, ℕ, ◌-◌, length, nat_le, if◌then◌else◌}
 use Rattle.octets.specs.Octets.{padded, zeros}
 use Rattle.octets.specs.Checked.{Check, pass, refuse}

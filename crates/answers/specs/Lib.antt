@@ -1,5 +1,4 @@
 -- What a call that writes into a lent output answers, and what the output then holds.
--- Assumes nothing.
 pub mod Answers
 pub mod Written
 pub mod Outcome

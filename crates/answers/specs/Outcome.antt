@@ -1,5 +1,4 @@
 -- An answer of which the bytes written are told by their number alone, and the code's answer as such a one.
--- Assumes nothing.
 use Rattle.std.specs.Prelude.{ℕ, Result, Ok, Err, length}
 use Rattle.numbers.specs.Refused.{number_of}
 use Rattle.answers.specs.Answers as answer

@@ -1,5 +1,4 @@
 -- The code's answer in numbers: the refusal and 0; 18 and the length needed; 0 and the length written.
--- Assumes nothing.
 use Rattle.std.specs.Prelude.{ℕ, Result, Ok, Err}
 use Rattle.numbers.specs.Refusals.{output_short}
 use Rattle.numbers.specs.Refused.{number_of}

@@ -1,5 +1,4 @@
 -- The package as the lookups read it, for what is asked; and what is not handed in is absent.
--- Assumes nothing.
 use mathlib.Core.Path.{◌≡◌, refl, sym, ap, ◌∙◌, subst}
 use mathlib.Core.Logic.{◌⊎◌, inl, inr, ⊎_elim}
 use mathlib.Core.Bool.{true, false, ◌&&◌, ◌||◌}

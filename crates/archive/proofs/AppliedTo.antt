@@ -1,5 +1,4 @@
 -- What small bundles hold, by computing it: the premises of the laws that are applied to them.
--- Assumes nothing.
 use mathlib.Core.Path.{◌≡◌, refl}
 use mathlib.Core.Bool.{false, true}
 use mathlib.Core.List.{List, [], ◌∷◌, ◌++◌}

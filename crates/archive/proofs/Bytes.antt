@@ -1,5 +1,4 @@
 -- A list of numbers below 256, by a test that computes.
--- Assumes nothing.
 use mathlib.Core.Path.{◌≡◌}
 use mathlib.Core.Bool.{true}
 use mathlib.Core.List.{List, [], ◌∷◌}

@@ -1,5 +1,4 @@
 -- The clauses of the theorem, each taken from its record.
--- Assumes nothing.
 use Rattle.archive.specs.Clauses.{EveryClause}
 use Rattle.archive.proofs.FromBundleToAnswer.{from_bundle_to_answer}
 

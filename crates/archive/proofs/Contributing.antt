@@ -1,5 +1,4 @@
 -- What is filed for a first unit is what it contributes; and a unit that is not the first of its identity is for the type table.
--- Assumes nothing.
 use mathlib.Core.Path.{◌≡◌, refl, sym, ap, ◌∙◌, subst}
 use mathlib.Core.Bool.{Bool, true, false, not}
 use mathlib.Core.Logic.{⊎_elim}

@@ -1,6 +1,5 @@
--- The worked examples of document 01, as one list, with those of each crate: the words of a bundle, LEB128 numbers, units, strings, indexes, packing
+-- The worked examples of docs/FORMAT.md, as one list, with those of each crate: the words of a bundle, LEB128 numbers, units, strings, indexes, packing
 -- with every refusal, looking up with every refusal.
--- Assumes nothing.
 use mathlib.Core.Path.{◌≡◌, refl}
 use mathlib.Core.Bool.{false}
 use mathlib.Core.List.{List, [], ◌∷◌}
@@ -41,7 +40,7 @@ use Rattle.index.proofs.Examples as Indexes
 use Rattle.package.proofs.Examples as Packing
 use Rattle.lookup.proofs.Examples as Lookups
 
--- document 01, "A whole package": the bundle
+-- the bundle of FORMAT 14
 abbrev pub example : List ℕ
 example = numbers_of false 4 (0xF0000000 ∷ 0x10080405 ∷ 0x20800014 ∷ 0x10 ∷ 0x8050005 ∷ 0 ∷ 1 ∷ 0 ∷ 0x21800001 ∷ 0 ∷ 0x3000000B ∷ [])
 
@@ -65,7 +64,7 @@ type_thrice =
 
 abbrev pub Examples : Type 0
 Examples =
-    -- topic by topic; the slots, the probing and the strings of document 01 among them
+    -- topic by topic; the slots, the probing and the strings of FORMAT 4.3, 5.4 and 5.5 among them
     Bundles.Examples
     × Numbers.Examples
     × Units.Examples
@@ -76,7 +75,7 @@ Examples =
     -- the whole package, and the length needed where the output is a byte too short
     × (packed example 220 112 ≡ made example_made)
     × (packed example 220 111 ≡ short 112)
-    -- identity 1: the unit, its part of abbrev; 2 is absent; by version means 22
+    -- identity 1: the unit, its part of abbrev; 2 is absent; by the other form 22
     × (looked_up example_made 5 1 1 1 ≡ part 12 20 1)
     × (looked_up example_made 5 1 1 3 ≡ part 36 1 1)
     × (looked_up example_made 5 1 2 1 ≡ absent 1)
@@ -90,7 +89,7 @@ Examples =
     -- others of its signature are namesakes, also where they agree with each other: both are compared with the one kept
     × (repeats type_thrice 500 96 ≡ 0)
     × (namesakes type_thrice 500 96 ≡ 2)
-    -- ticket 5: of a package with two parts of str_offsets a unit's strings are those of its part, behind that part's header
+    -- of a package with two parts of str_offsets a unit's strings are those of its part, behind that part's header
     × (string_found (Packing.two_parts 0 2 0x61_0062 0 12 12) 5 1 2 0 ≡ part 94 1 1)
     × (string_found (Packing.two_parts 0 2 0x61_0062 12 0 12) 5 1 2 0 ≡ part 92 1 1)
     × (string_found (Packing.two_parts 0 2 0x61_0062 0 12 12) 5 1 2 1 ≡ refusal 25)

@@ -1,5 +1,4 @@
 -- The looks of a lookup in the package of an accepted bundle: every slot that it looks at is used, but for the last of one that finds nothing.
--- Assumes nothing.
 use mathlib.Core.Path.{◌≡◌, refl, sym, ap, ◌∙◌, subst}
 use mathlib.Core.Logic.{◌⊎◌, inl, inr, ⊎_elim}
 use mathlib.Core.Bool.{Bool, true, false}

@@ -1,5 +1,4 @@
 -- A bundle with a unit in info has a package with one: its info starts with a unit.
--- Assumes nothing.
 use mathlib.Core.Path.{◌≡◌, refl, sym, ap, ◌∙◌, subst}
 use mathlib.Core.Logic.{⊎_elim}
 use mathlib.Core.Bool.{true, false}

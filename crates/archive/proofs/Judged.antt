@@ -1,5 +1,4 @@
 -- The lookups on a package that can be read, by the version and the table asked for, and what probing says.
--- Assumes nothing.
 use mathlib.Core.Path.{◌≡◌, refl, sym, ap, ◌∙◌}
 use mathlib.Core.Logic.{◌⊎◌, ⊎_elim}
 use mathlib.Core.Bool.{true, false, ◌&&◌, ◌||◌}

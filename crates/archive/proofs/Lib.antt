@@ -1,5 +1,4 @@
 -- The worked examples, the proofs of the laws, and the numbers of refusals.
--- Assumes nothing.
 pub mod Examples
 pub mod Read
 pub mod Places

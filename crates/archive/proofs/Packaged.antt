@@ -1,5 +1,4 @@
 -- From the two contracts, of packing and of looking up, and the theorem, to the answer of one question.
--- Assumes nothing.
 use mathlib.Core.Path.{◌≡◌, refl, ap, ◌∙◌}
 use mathlib.Core.List.{List}
 use Prim.Native.Nat.{ℕ}

@@ -1,5 +1,4 @@
--- The round trip of ticket 9, proved: the sections that are written are the package's, and the first unit of info states its object word.
--- Assumes nothing.
+-- The round trip of a .dwp file, proved: the sections that are written are the package's, and the first unit of info states its object word.
 use mathlib.Core.Path.{◌≡◌, refl, sym, ap, ap₂, ◌∙◌, subst}
 use mathlib.Core.Logic.{◌⊎◌, inl, inr, ⊎_elim}
 use mathlib.Core.Bool.{Bool, true, false}

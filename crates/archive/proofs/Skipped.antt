@@ -1,5 +1,4 @@
 -- What callers are told of the type units that were skipped, proved.
--- Assumes nothing.
 use mathlib.Core.Path.{◌≡◌, refl}
 use mathlib.Core.List.{List}
 use Prim.Native.Nat.{ℕ}

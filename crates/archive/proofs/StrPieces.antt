@@ -1,5 +1,4 @@
 -- A str section cut after each zero byte is the table of strings that it was written from.
--- Assumes nothing.
 use mathlib.Core.Path.{◌≡◌, refl, sym, ap, ◌∙◌}
 use mathlib.Core.Logic.{⊎_elim}
 use mathlib.Core.Bool.{true}

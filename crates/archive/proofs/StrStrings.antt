@@ -1,5 +1,4 @@
 -- The str section of the package of an accepted bundle: the first uses, each once, and what the string lookup finds is among them.
--- Assumes nothing.
 use mathlib.Core.Path.{◌≡◌, refl, sym, ap, ◌∙◌, subst}
 use mathlib.Core.Logic.{⊎_elim}
 use mathlib.Core.Bool.{true, false}

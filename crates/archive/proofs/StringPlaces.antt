@@ -1,5 +1,4 @@
 -- The strings of a kept unit in the package: each entry's string, and no other entry.
--- Assumes nothing.
 use mathlib.Core.Path.{◌≡◌, refl, sym, ap, ◌∙◌, subst}
 use mathlib.Core.Logic.{⊎_elim}
 use mathlib.Core.Bool.{true, false}

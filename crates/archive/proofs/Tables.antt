@@ -1,5 +1,4 @@
 -- The package's own tables: missing where no unit was handed in for them, else with the slots that were placed.
--- Assumes nothing.
 use mathlib.Core.Path.{◌≡◌, refl, sym, ap, ◌∙◌}
 use mathlib.Core.Logic.{⊎_elim}
 use mathlib.Core.Bool.{true, false}

@@ -1,5 +1,4 @@
--- Demand 3 for one question, from the theorem and the lookup's answer.
--- Assumes nothing.
+-- The theorem for one question, from the theorem of all and the lookup's answer.
 use mathlib.Core.Path.{◌≡◌, refl, ap, ◌∙◌, subst}
 use mathlib.Core.Logic.{◌⊎◌, inl, inr, ⊎_elim}
 use mathlib.Core.Bool.{true, false}

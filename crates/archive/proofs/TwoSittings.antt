@@ -1,5 +1,4 @@
 -- Packing in two sittings, from crate sittings.
--- Assumes nothing.
 use Rattle.sittings.proofs.TwoSittings as sittings
 use Rattle.archive.specs.TwoSittings.{TwoSittings}
 

@@ -1,5 +1,4 @@
 -- The parts of a kept unit in the package: its own bytes, its contributions, and nothing where it has none.
--- Assumes nothing.
 use mathlib.Core.Path.{◌≡◌, refl, sym, ap, ◌∙◌, subst}
 use mathlib.Core.Logic.{⊎_elim}
 use mathlib.Core.Bool.{true, false}

@@ -1,5 +1,4 @@
--- Without a unit in info a package's file is refused by 33: ticket 9's round trip needs its premise.
--- Assumes nothing.
+-- Without a unit in info a package's file is refused by 33: the round trip needs its premise.
 use mathlib.Core.Path.{◌≡◌, refl, sym, ap, ◌∙◌}
 use mathlib.Core.Logic.{⊎_elim}
 use mathlib.Core.Bool.{Bool, true, false, ◌||◌}

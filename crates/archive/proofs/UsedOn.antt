@@ -1,5 +1,4 @@
 -- What the clauses of the theorem ask for of the small bundle, by computing it.
--- Assumes nothing.
 use mathlib.Core.Path.{◌≡◌, refl}
 use mathlib.Core.Bool.{true, false}
 use mathlib.Core.List.{[], ◌∷◌, map}

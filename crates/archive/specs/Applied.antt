@@ -1,5 +1,4 @@
 -- The laws told of small inputs, so that each of their premises is met somewhere.
--- Assumes nothing.
 use Rattle.std.specs.Prelude.{◌≡◌, false, List, [], ◌∷◌, ◌++◌, ℕ, ◌+◌, ◌*◌, ◌-◌, ◌/◌, ◌≤◌, ◌<◌, max, length, get_or}
 use Rattle.std.proofs.Math.Option.{none}
 use Rattle.numbers.specs.Refusals.{no_unit, file_short, bad_parts}

@@ -1,5 +1,4 @@
 -- The clauses of the theorem once more, in a row: a check fails where the theorem's record has lost one.
--- Assumes nothing.
 use Rattle.std.specs.Prelude.{◌≡◌, List, ℕ}
 use Rattle.package.specs.Pack.{packed, made}
 use Rattle.archive.specs.Looks.{FindingTakes, AbsenceTakes}

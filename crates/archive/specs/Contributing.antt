@@ -1,5 +1,4 @@
 -- What a unit contributes of its object's shared sections, if it is the first of its identity: said of the object's own index, or of its whole sections.
--- Assumes nothing.
 use Rattle.std.specs.Prelude.{◌≡◌, List, [], ◌∷◌, ◌++◌, ℕ, ◌+◌, ◌≤◌, length}
 use Rattle.std.proofs.Math.Option.{some, none}
 use Rattle.numbers.specs.Sections.{first_shared, last_shared}

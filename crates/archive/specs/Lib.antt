@@ -1,5 +1,4 @@
--- Demand 3 of document 01: one claim, from bundle to answer; the same for one question, about the code; by which numbers calls refuse; and what is told of units that were skipped.
--- Assumes nothing.
+-- The theorem, from bundle to answer; the same for one question, about the code; by which numbers calls refuse; and what is told of units that were skipped.
 pub mod Contributing
 pub mod NothingLost
 pub mod Theorem

@@ -1,5 +1,4 @@
 -- How many slots a lookup looks at, by the units that the package's own index counts.
--- Assumes nothing.
 use Rattle.std.specs.Prelude.{◌≡◌, List, ℕ, ◌+◌, ◌≤◌}
 use Rattle.std.proofs.Math.Option.{Option, some, none}
 use Rattle.octets.specs.Checked.{pass, refuse}
@@ -14,13 +13,13 @@ units_in none = 0
 unfoldable pub units_of : List ℕ → ℕ → ℕ
 units_of p table = elim (package_of p) [ pass k ↦ units_in (index_for k table) | refuse n ↦ 0 ]
 
--- "With n units in a table .., finding one takes at most n looks", by the part and by the string
+-- finding takes no more looks than the table has units (FORMAT 7.4), by the part and by the string
 abbrev pub FindingTakes : List ℕ → Type 0
 FindingTakes p =
     (v table x code entry start size n : ℕ)
     → (looked_up p v table x code ≡ part start size n → n ≤ units_of p table) × (string_found p v table x entry ≡ part start size n → n ≤ units_of p table)
 
--- "and absence at most n + 1"
+-- and missing no more than one look more
 abbrev pub AbsenceTakes : List ℕ → Type 0
 AbsenceTakes p =
     (v table x code entry n : ℕ)

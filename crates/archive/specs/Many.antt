@@ -1,5 +1,4 @@
 -- Many questions for the package of an accepted bundle: the sum of their looks.
--- Assumes nothing.
 use Rattle.std.specs.Prelude.{◌≡◌, List, [], ◌∷◌, ℕ, ◌+◌, ◌*◌, ◌/◌, ◌≤◌, max, length}
 use Rattle.numbers.specs.Tables.{compilation_table, type_table}
 use Rattle.answers.specs.Answers.{made as answeredBy}
@@ -16,7 +15,7 @@ looks_in (code ∷ start ∷ []) = 0
 looks_in (code ∷ start ∷ size ∷ []) = 0
 looks_in (code ∷ start ∷ size ∷ looks ∷ rest) = looks + looks_in rest
 
--- "the sum of looks is at most the questions times one more than the larger table's units"; three words are a question
+-- the looks of all answers together: for each question no more than the larger table has units, and one (FORMAT 7.5); three words are a question
 abbrev pub SumOfLooks : List ℕ → Type 0
 SumOfLooks p =
     (v room : ℕ) (questions answers : List ℕ) → batch_answered p v questions room ≡ answeredBy answers

@@ -1,6 +1,5 @@
 -- Nothing is lost: what the sections of a bundle hold is in its package. b is a bundle that packing accepts, p its package. Of both the same is told:
 -- the bytes of all sections of a code, wherever they stand.
--- Assumes nothing.
 use Rattle.std.specs.Prelude.{◌≡◌, ◌⊎◌, ◌==◌, true, List, [], ◌∷◌, ◌++◌, map, ℕ, ◌≤◌, length}
 use Rattle.numbers.specs.Tables.{type_table}
 use Rattle.numbers.specs.Sections.{info_code, types_code, str_offsets_code, str_code, cu_index_code, tu_index_code}

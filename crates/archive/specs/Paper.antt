@@ -1,5 +1,4 @@
--- Ticket 6's law: the sheet and the lookups say the same. b is a bundle that packing accepts, p its package.
--- Assumes nothing.
+-- The sheet and the lookups say the same. b is a bundle that packing accepts, p its package.
 use Rattle.std.specs.Prelude.{◌≡◌, true, List, [], ◌++◌, map, ℕ, ◌-◌}
 use Rattle.std.proofs.Math.Option.{Option, some, none}
 use Rattle.numbers.specs.Tables.{compilation_table, type_table}

@@ -1,6 +1,5 @@
--- Demand 3 for one question, as `pack_and_look_up` answers it: the answer is the lookup's, whatever is asked; and the clauses of `Theorem.antt` that speak
+-- The theorem for one question, as `pack_and_look_up` answers it (FORMAT 7.6): the answer is the lookup's, whatever is asked; and the clauses of `Theorem.antt` that speak
 -- of an answer, told of its numbers.
--- Assumes nothing.
 use Rattle.std.specs.Prelude.{◌≡◌, ◌⊎◌, ◌↔◌, false, List, [], ℕ, ◌+◌, ◌≤◌, ◌<◌, length, slice_index, slice_index_or}
 use Rattle.numbers.specs.Sections.{str_offsets_code, str_code}
 use Rattle.numbers.specs.Refusals.{no_string, output_short, other_version, no_entry}

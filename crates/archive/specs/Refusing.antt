@@ -1,5 +1,4 @@
 -- By which numbers calls refuse: packing by 1 to 16, 18, 19 and 34; looking up by 21 to 26. The number is the code that a caller is told.
--- Assumes nothing.
 use Rattle.std.specs.Prelude.{◌≡◌, ◌⊎◌, List, ℕ, ◌≤◌}
 use Rattle.numbers.specs.Refusals.{bad_length, bad_row, output_short, section_too_long, bad_parts, bad_package, no_string_there}
 use Rattle.package.specs.Pack.{packed}

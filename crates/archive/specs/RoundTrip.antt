@@ -1,6 +1,5 @@
--- Ticket 9: "For the package of an accepted bundle whose info holds a unit, reading the file by the rules of Ticket 2 gives the package back."
+-- The file that is written of an accepted bundle's package, where a unit stood in info, reads back as that package (FORMAT 8.3).
 -- So whoever holds only the .dwp file holds the package.
--- Assumes nothing.
 use Rattle.std.specs.Prelude.{◌≡◌, ◌⊎◌, Bool, true, false, List, ℕ, ◌≤◌, ◌<◌, length, ◌==◌}
 use Rattle.numbers.specs.Sections.{info_code}
 use Rattle.numbers.specs.Refusals.{no_unit, file_short}
@@ -12,7 +11,7 @@ use Rattle.elf.specs.Reader.{elf_read}
 use Rattle.elf.specs.Writer.{machine_good, is_machine, elf_written, elf_written_for}
 use Rattle.archive.specs.Theorem.{AreBytes}
 
--- Ticket 2 takes the object word from the first unit of info. Without one, as in a version 4 package that has types only, it refuses the file by 33.
+-- A reader takes the object word from the first unit of info. Without one, as in a version 4 package that has types only, it refuses the file by 33.
 unfoldable pub stands_in_info : Filed → Bool
 stands_in_info u = u.home == info_code
 

@@ -1,5 +1,4 @@
 -- Rules that the definitions keep, each as a user would say it. The definitions themselves are walks and sums; that they come to this is proved.
--- Assumes nothing.
 use Rattle.std.specs.Prelude.{◌≡◌, ◌⊎◌, ◌↔◌, List, ◌∷◌, ◌++◌, ℕ, ◌+◌, ◌*◌, ◌^◌, ◌≤◌, ◌<◌, length, get_or}
 use Rattle.std.proofs.Math.Option.{Option}
 use Rattle.numbers.specs.Refusals.{bad_parts}

@@ -1,5 +1,4 @@
 -- The str section of a package, as a reader holds it, cut after each zero byte.
--- Assumes nothing.
 use Rattle.std.specs.Prelude.{true, false, List, [], ◌∷◌, ℕ, ◌==◌, if◌then◌else◌}
 use Rattle.numbers.specs.Sections.{str_code}
 use Rattle.octets.specs.Checked.{pass, refuse, ◌>>=◌}
@@ -13,7 +12,7 @@ unfoldable pub onto : ℕ → List (List ℕ) → List (List ℕ)
 onto b [] = (b ∷ []) ∷ []
 onto b (s ∷ ss) = (b ∷ s) ∷ ss
 
--- "cut after each zero byte": every piece has its zero byte at its end; bytes after the last zero byte are a piece without one
+-- a section cut behind each zero byte: every piece has its zero byte at its end; bytes after the last zero byte are a piece without one
 unfoldable pub pieces : List ℕ → List (List ℕ)
 pieces [] = []
 pieces (b ∷ s) = if b == 0 then (b ∷ []) ∷ pieces s else onto b (pieces s)

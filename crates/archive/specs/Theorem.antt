@@ -1,6 +1,5 @@
--- "Demand 3 is one claim, from bundle to answer, over the accepted set and the package as demand 2 defines them; its lookup rule is this section's."
+-- The theorem: one claim, from the bundle that is packed to the answers of lookups in its package (FORMAT 7.7).
 -- b is a bundle that packing accepts, p its package; every answer of both lookups on p is told from the units handed in with b.
--- Assumes nothing.
 use Rattle.std.specs.Prelude.{◌≡◌, ◌⊎◌, ◌↔◌, Bool, true, false, ◌||◌, List, [], ◌∷◌, ◌++◌, map, ℕ, ◌+◌, ◌*◌, ◌-◌, ◌%◌, ◌≤◌, ◌<◌, length, ◌==◌, nat_le, slice_index, slice_index_or, if◌then◌else◌}
 use Rattle.std.proofs.Math.Option.{Option, some, none}
 use Rattle.numbers.specs.Tables.{compilation_table, type_table, dwarf5, index2, index5}
@@ -23,7 +22,7 @@ use Rattle.archive.specs.Looks.{units_of, FindingTakes, AbsenceTakes}
 use Rattle.archive.specs.StrSection.{pieces, str_in, strings_named}
 
 -- ---- what is asked
--- "The index version is 2 for objects of version 4, 5 for those of 5, and either one without objects"
+-- the form of index that belongs to the bundle's objects: 2 to version 4, 5 to version 5, both to no objects (FORMAT 7.7)
 unfoldable pub is_version_of : List Object → ℕ → Bool
 is_version_of [] v = v == index2 || v == index5
 is_version_of (o ∷ os) v = if o.word % 256 == dwarf5 then (v == index5) else (v == index2)
@@ -36,13 +35,13 @@ pub record Asked (b : List ℕ) (v table : ℕ) : Type 0 where
   pub version : is_index_version b v ≡ true
   pub tables : (table ≡ compilation_table) ⊎ (table ≡ type_table)
 
--- "a section code from 1 to 10"
+-- a code that a lookup of a part takes
 pub record IsCode (code : ℕ) : Type 0 where
   pub from : 1 ≤ code
   pub to : code ≤ last_shared
 
 -- ---- what was handed in
--- "Units of types, and unit types 2 and 6 of version 5, are handed in for the type table, the others for the compilation table, each under its identity."
+-- some unit was handed in for the table under the identity (FORMAT 1.2)
 abbrev pub IsHandedIn : List ℕ → ℕ → ℕ → Type 0
 IsHandedIn b table x = any (is_under table x) (handed_in b) ≡ true
 
@@ -50,7 +49,7 @@ IsHandedIn b table x = any (is_under table x) (handed_in b) ≡ true
 unfoldable pub is_for : ℕ → Filed → Bool
 is_for table u = u.table == table
 
--- "First is first in the bundle: the kept one."
+-- the first unit in the bundle for its table and identity, which is the kept one
 pub record IsFirst (b : List ℕ) (table x : ℕ) (u : Filed) : Type 0 where
   pub before : List Filed
   pub behind : List Filed
@@ -58,8 +57,8 @@ pub record IsFirst (b : List ℕ) (table x : ℕ) (u : Filed) : Type 0 where
   pub under : is_under table x u ≡ true
   pub none_before : any (is_under table x) before ≡ false
 
--- "Its unit bytes are the part at code 1, or 2 for a unit of types; at codes 3 to 10 the part is its contribution, at 6 in length only;
--- where it has none, and at the other of 1 and 2, the part is empty." Here its contribution at 6 too; `TheFirstUnitInLength` takes its length.
+-- what a unit has under a section code: its own bytes under that of the section it stood in, its contribution under a shared one, else nothing.
+-- Of str_offsets `TheFirstUnitInLength` takes the length alone, since the package has other values there.
 unfoldable pub handed_part : Filed → ℕ → List ℕ
 handed_part u code = if code == u.home
     then u.bytes
@@ -104,7 +103,7 @@ Holds p answer n bytes = (start : ℕ) × (answer ≡ part start (length bytes) 
 abbrev pub EveryUnitIsHandedIn : List ℕ → Type 0
 EveryUnitIsHandedIn b = (k : Bundle) → bundle_of b ≡ pass k → FillObjects b k.big (first_word k.objects) k.objects (handed_in b)
 
--- and each of them is a unit: read alone it has its size, its table and its identity, and it is for the table that document 01 says
+-- and each of them is a unit: read alone it has its size, its table and its identity, and it is for the table that its section and unit type say
 abbrev pub EachIsAUnit : List ℕ → Type 0
 EachIsAUnit b = (before behind : List Filed) (u : Filed) → handed_in b ≡ before ++ (u ∷ behind) → IsUnit u
 
@@ -129,7 +128,7 @@ abbrev pub FoundExactlyWhenHandedIn : List ℕ → List ℕ → Type 0
 FoundExactlyWhenHandedIn b p =
     (v table x code : ℕ) → Asked b v table → IsCode code → IsPart (looked_up p v table x code) (looks b table x) ↔ IsHandedIn b table x
 
--- what is found is the first such unit: its bytes and its parts; "at 6 in length only"
+-- what is found is the first such unit: its bytes and its parts; of str_offsets the length
 abbrev pub TheFirstUnit : List ℕ → List ℕ → Type 0
 TheFirstUnit b p =
     (v table x code : ℕ) (u : Filed) → Asked b v table → IsCode code → IsFirst b table x u → (code ≡ str_offsets_code → ⊥)
@@ -140,15 +139,14 @@ TheFirstUnitInLength b p =
     (v table x : ℕ) (u : Filed) → Asked b v table → IsFirst b table x u
     → (start : ℕ) × (looked_up p v table x str_offsets_code ≡ part start (length (handed_part u str_offsets_code)) (looks b table x))
 
--- "String k is what entry k of its str_offsets part, as handed in, names in its object's str"; ticket 5: "A unit's strings are those of its part". In version 5 a header
--- is in that part, and entry 0 follows it
+-- string k is the one that entry k of the unit's part named in its own object. In version 5 a header is in that part, and entry 0 follows it
 abbrev pub ItsStrings : List ℕ → List ℕ → Type 0
 ItsStrings b p =
     (v table x k : ℕ) (u : Filed) → Asked b v table → IsFirst b table x u → k < length (entries_of_unit u)
     → (string : List ℕ) × (string_at no_string (u.input.bytes str_code) (slice_index (entries_of_unit u) k) ≡ pass string)
     × Holds p (string_found p v table x k) (looks b table x) string
 
--- "any other index is 25"
+-- for any other number of an entry the answer is 25
 abbrev pub NoOtherString : List ℕ → List ℕ → Type 0
 NoOtherString b p =
     (v table x k : ℕ) (u : Filed) → Asked b v table → IsFirst b table x u → length (entries_of_unit u) ≤ k → string_found p v table x k ≡ refused no_entry
@@ -168,7 +166,7 @@ EndsUnused b table x =
 abbrev pub AbsentEnds : List ℕ → Type 0
 AbsentEnds b = (table x : ℕ) → (table ≡ compilation_table) ⊎ (table ≡ type_table) → any (is_under table x) (handed_in b) ≡ false → EndsUnused b table x
 
--- "looks are those of the probing definition, the slot where it ends included", which the clauses above say; and at most the slots
+-- the clauses above tell the looks of the search; they are at most the slots
 abbrev pub LooksAtMostSlots : List ℕ → Type 0
 LooksAtMostSlots b = (table x : ℕ) → looks b table x ≤ length (slots_of_table b table).rows
 
@@ -176,22 +174,22 @@ LooksAtMostSlots b = (table x : ℕ) → looks b table x ≤ length (slots_of_ta
 abbrev pub UnitsCounted : List ℕ → List ℕ → Type 0
 UnitsCounted b p = (table : ℕ) → (table ≡ compilation_table) ⊎ (table ≡ type_table) → units_of p table ≡ length (identities_of b table)
 
--- the str section, cut after each zero byte, "holds every string that some str_offsets entry reaches": whatever the string lookup finds, of any unit and entry
+-- whatever the string lookup finds, of any unit and entry, is a piece of the str section where that is cut behind each zero byte
 abbrev pub EveryStringReached : List ℕ → List ℕ → Type 0
 EveryStringReached b p =
     (v table x k start size n : ℕ) → Asked b v table → string_found p v table x k ≡ part start size n
     → (i : ℕ) × (i < length (pieces (str_in p))) × (slice_index_or (pieces (str_in p)) i [] ≡ ended (bytes_at p start size))
 
--- "exactly once"
+-- no piece stands there twice
 abbrev pub EachStringOnce : List ℕ → Type 0
 EachStringOnce p =
     (i j : ℕ) → i < length (pieces (str_in p)) → j < length (pieces (str_in p)) → slice_index_or (pieces (str_in p)) i [] ≡ slice_index_or (pieces (str_in p)) j [] → i ≡ j
 
--- "in order of first use, and no other string": the first uses of what the entries of str_offsets name, all objects' entries in the order of the bundle
+-- the pieces are, one by one, the first uses of what the entries of str_offsets name, all objects' entries in the order of the bundle
 abbrev pub FirstUsesAndNoOther : List ℕ → List ℕ → Type 0
 FirstUsesAndNoOther b p = pieces (str_in p) ≡ map ended (first_uses (strings_named b))
 
--- "by version means 22": the other version, where an index was written
+-- the other form is refused by 22, where an index was written
 abbrev pub TheOtherVersion : List ℕ → List ℕ → Type 0
 TheOtherVersion b p =
     (v table x code k : ℕ) → is_index_version b v ≡ false → (handed_in b ≡ [] → ⊥)

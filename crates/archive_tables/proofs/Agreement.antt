@@ -1,5 +1,4 @@
 -- Each table is what its rule works out, by computing both.
--- Assumes nothing.
 use Rattle.std.proofs.Common.{refl}
 use Rattle.numbers.specs.Names.{dwo_words, index_words, name_prefix, name_suffix, dwo_name, index_name, section_names}
 use Rattle.octets.specs.Lists.{has, any}

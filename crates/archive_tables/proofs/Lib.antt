@@ -1,4 +1,3 @@
 -- The agreement of the tables with their rules, and what the program's proofs cite.
--- Assumes nothing.
 pub mod Agreement
 pub mod Named

@@ -1,7 +1,6 @@
 -- The statement over each whole table: it is what its rule works out, entry for entry and in its order.
 -- These tables are the ones that the source's constants are proved to hold: `numbers::names::section_names`, `index::cells::columns` and
 -- `unit::forms::all_forms` alone read the constants, and each promises that the whole array or slice is the table named here. All other code has its entries from them.
--- Assumes nothing.
 use Rattle.std.specs.Prelude.{◌≡◌, List, [], ◌∷◌, map, ℕ, zero, suc}
 use Rattle.numbers.specs.Names.{section_names}
 use Rattle.numbers.specs.Tables.{index2, index5}

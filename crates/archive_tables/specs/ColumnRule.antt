@@ -1,6 +1,5 @@
 -- The columns of an index. Version 2 has one for each of the first eight sections, in order, and a column has its section's code.
 -- Version 5 keeps that order and those codes, but for what is said here.
--- Assumes nothing.
 use Rattle.std.specs.Prelude.{true, false, ◌||◌, List, [], ◌∷◌, ◌++◌, map, ℕ, ◌==◌, if◌then◌else◌}
 use Rattle.numbers.specs.Sections.{info_code, types_code, abbrev_code, line_code, loc_code, str_offsets_code, macinfo_code, macro_code, loclists_code, rnglists_code}
 use Rattle.numbers.specs.Tables.{index5}
@@ -22,8 +21,8 @@ column_five s =
     if s == loclists_code
     then loc_code
     else if s == macro_code
-        then macinfo_code
-        else if s == rnglists_code then macro_code else s
+    then macinfo_code
+    else if s == rnglists_code then macro_code else s
 
 unfoldable pub column_by_rule : ℕ → ℕ → ℕ
 column_by_rule version s = if version == index5 then column_five s else s

@@ -1,6 +1,5 @@
 -- The width of a form: each width has its forms, by the names that DWARF 4 gives them, and the two of split DWARF before version 5.
 -- The table has every form that has a width, rising.
--- Assumes nothing.
 use Rattle.std.specs.Prelude.{true, false, List, [], ◌∷◌, ℕ, zero, suc, if◌then◌else◌}
 use Rattle.std.proofs.Math.Option.{Option, some, none}
 use Rattle.octets.specs.Lists.{has}

@@ -1,5 +1,4 @@
 -- The rules of three tables: section names, columns of an index, widths of forms. And the statement that the tables of the source are what the rules give.
--- Assumes nothing.
 pub mod NameRule
 pub mod ColumnRule
 pub mod FormRule

@@ -1,5 +1,4 @@
 -- A section's name: `.debug_`, the word of its code, and `.dwo` up to code 11. The words are spelled here, in ASCII, and not taken from the source's table.
--- Assumes nothing.
 use Rattle.std.specs.Prelude.{true, false, List, [], ◌∷◌, ◌++◌, ℕ, ◌-◌, nat_le, slice_index_or, if◌then◌else◌}
 use Rattle.numbers.specs.Sections.{str_code}
 

@@ -1,5 +1,4 @@
 -- What the program prints by, of the rules. Nothing here need be believed.
--- Assumes nothing.
 use Rattle.std.specs.Prelude.{true, false, List, [], ◌∷◌, ℕ, ◌==◌, if◌then◌else◌}
 use Rattle.numbers.specs.Tables.{index5}
 use Rattle.archive_tables.specs.ColumnRule.{in_its_place}

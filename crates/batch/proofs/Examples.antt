@@ -1,5 +1,4 @@
 -- Whole calls of many questions, as the checker computes them: a part, an absence, a missing column, refusals, and the ways to 38.
--- Assumes nothing.
 use mathlib.Core.Path.{◌≡◌, refl}
 use mathlib.Core.Bool.{false}
 use mathlib.Core.List.{List, [], ◌∷◌}

@@ -1,5 +1,4 @@
 -- Laws of the questions and of their answers.
--- Assumes nothing.
 pub mod Questions
 pub mod Sizes
 pub mod Answering

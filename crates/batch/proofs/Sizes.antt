@@ -1,5 +1,4 @@
 -- The numbers of an answer have 32 bits: a part lies in the package, and the package has more bytes than an index of it has slots.
--- Assumes nothing.
 use mathlib.Core.Path.{◌≡◌, refl, ap}
 use mathlib.Core.Bool.{◌&&◌}
 use mathlib.Core.List.{List}

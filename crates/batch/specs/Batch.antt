@@ -1,5 +1,4 @@
 -- Many questions for one package, as words, and their answers, as words.
--- Assumes nothing.
 use Rattle.std.specs.Prelude.{List, [], ◌∷◌, ◌++◌, ℕ, ◌+◌, ◌*◌, ◌/◌, ◌%◌, length, ◌==◌, nat_le}
 use Rattle.numbers.specs.Limits.{questions_limit}
 use Rattle.numbers.specs.Refusals.{bad_questions}

@@ -1,5 +1,4 @@
 -- What ties the code to the definitions. Nothing here need be believed.
--- Assumes nothing.
 use Rattle.std.specs.Prelude.{◌≡◌, Bool, true, false, ◌&&◌, List, [], ℕ, ◌*◌, ◌^◌, ◌≤◌, ◌<◌, length, Result, IfOk, nat_le}
 use Rattle.numbers.specs.Limits.{questions_limit}
 use Rattle.numbers.specs.Refused.{told}

@@ -1,5 +1,4 @@
 -- The answers of the functions that read one item, towards the code: b is the bundle, and at a place of it.
--- Assumes nothing.
 use mathlib.Core.Path.{◌≡◌, ap, sym, ◌∙◌}
 use mathlib.Core.Bool.{true, false}
 use mathlib.Core.List.{List}

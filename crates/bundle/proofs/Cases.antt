@@ -1,5 +1,4 @@
 -- The cases of a step, one law for each.
--- Assumes nothing.
 use mathlib.Core.Path.{◌≡◌}
 use mathlib.Core.Bool.{true, false}
 use mathlib.Core.List.{List}

@@ -1,5 +1,4 @@
 -- Whether the items from a place on reach the end, and are in order, by an answer of `next_item` at the place; and what `check_words` makes of it.
--- Assumes nothing.
 use mathlib.Core.Path.{◌≡◌, refl, ap, sym, ◌∙◌}
 use mathlib.Core.Bool.{Bool, true, false}
 use mathlib.Core.List.{List}

@@ -1,5 +1,4 @@
 -- What holds of each one of a list.
--- Assumes nothing.
 use mathlib.Core.List.{List, [], ◌∷◌}
 
 pub data Every {A : Type 0} (P : A → Type 0) : List A → Type 0 where

@@ -1,5 +1,4 @@
 -- The words of a bundle at their limits, as the checker computes them.
--- Assumes nothing.
 use mathlib.Core.Path.{◌≡◌, refl}
 use mathlib.Core.Bool.{true, false}
 use mathlib.Core.List.{List, [], ◌∷◌, map}

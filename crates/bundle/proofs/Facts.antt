@@ -1,5 +1,4 @@
 -- What a step says of the word that it reads and of what lies behind.
--- Assumes nothing.
 use mathlib.Core.Path.{◌≡◌, refl}
 use mathlib.Core.Bool.{Bool, true, false}
 use mathlib.Core.List.{List}

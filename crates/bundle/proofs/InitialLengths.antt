@@ -1,5 +1,4 @@
 -- Laws of DWARF's initial length: by the width, and in bytes that begin alike.
--- Assumes nothing.
 use mathlib.Core.Path.{◌≡◌, sym, ap, ◌∙◌}
 use mathlib.Core.Logic.{⊎_elim}
 use mathlib.Core.Bool.{Bool, true, false}

@@ -1,5 +1,4 @@
 -- Items taken apart: the sections before the next object, what stands behind them, the objects.
--- Assumes nothing.
 use mathlib.Core.Path.{◌≡◌, refl, ap}
 use mathlib.Core.Bool.{true}
 use mathlib.Core.List.{List, [], ◌∷◌, ◌++◌, map}

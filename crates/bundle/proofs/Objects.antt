@@ -1,5 +1,4 @@
 -- Passes over a bundle that can be read: over one object's sections, and over the objects. Each law takes an answer of `next_item`.
--- Assumes nothing.
 use mathlib.Core.Path.{◌≡◌, refl, ap, sym, ◌∙◌}
 use mathlib.Core.Bool.{true, false}
 use mathlib.Core.List.{List, [], ◌∷◌, ◌++◌, append-nil, append_assoc}

@@ -1,5 +1,4 @@
 -- How many bytes the str_offsets sections of a bundle have: item by item, object by object, and in a bundle whole.
--- Assumes nothing.
 use mathlib.Core.Path.{◌≡◌, refl, ap, sym, ◌∙◌}
 use mathlib.Core.Bool.{Bool, true, false}
 use mathlib.Core.List.{List, [], ◌∷◌}

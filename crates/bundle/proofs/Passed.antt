@@ -1,5 +1,4 @@
 -- A pass over the items of a bundle: what any loop with a cursor keeps, whatever it computes.
--- Assumes nothing.
 use mathlib.Core.Path.{◌≡◌, refl, ap, sym, ◌∙◌}
 use mathlib.Core.List.{List, [], ◌∷◌, ◌++◌, append_assoc}
 use Prim.Native.Nat.{ℕ, ◌+◌}

@@ -1,5 +1,4 @@
 -- What a scan says, for those who call `scan_object` in a bundle that can be read.
--- Assumes nothing.
 use mathlib.Core.Path.{◌≡◌, refl, ap, ap₂, sym, ◌∙◌}
 use mathlib.Core.List.{List}
 use mathlib.Core.Option.{Option, some, none}

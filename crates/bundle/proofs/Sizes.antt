@@ -1,5 +1,4 @@
 -- Sums of sizes: of a bundle written, and of the sections of a bundle that can be read.
--- Assumes nothing.
 use mathlib.Core.Path.{◌≡◌, refl, ap, sym, ◌∙◌}
 use mathlib.Core.Bool.{Bool}
 use mathlib.Core.List.{List, [], ◌∷◌, map}

@@ -1,5 +1,4 @@
 -- The laws of `bundle_of`: what it says where it passes, and each way in which it refuses.
--- Assumes nothing.
 use mathlib.Core.Path.{◌≡◌, refl, sym, ◌∙◌}
 use mathlib.Core.Bool.{Bool, true, false, ◌||◌}
 use mathlib.Core.List.{List}

@@ -1,5 +1,4 @@
 -- The words of a bundle: every refusal of `bundle_of` is 3, and what an answer of `check_words` says.
--- Assumes nothing.
 use Rattle.std.specs.Prelude.{◌≡◌, Bool, List, ℕ, zero, suc, ◌+◌, length, drop}
 use Rattle.numbers.specs.Refusals.{bad_words}
 use mathlib.Core.Path.{refl, sym, ap, ◌∙◌}

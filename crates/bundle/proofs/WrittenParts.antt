@@ -1,5 +1,4 @@
 -- The sections of one object that is written: where each one lies, its code, and how many bytes they take.
--- Assumes nothing.
 use mathlib.Core.Path.{◌≡◌, refl, sym, ap, ◌∙◌, subst}
 use mathlib.Core.Logic.{⊎_elim}
 use mathlib.Core.Bool.{Bool, true, false}

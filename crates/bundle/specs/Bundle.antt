@@ -1,6 +1,5 @@
 -- A bundle is little-endian 32-bit words, whose bits 28 to 31 are the word's kind: head, object, section with its bytes, end.
--- Whatever is not so breaks the word format (3).
--- Assumes nothing.
+-- Whatever is not so breaks the word format (3; FORMAT 2.1 and 2.3).
 use Rattle.std.specs.Prelude.{Bool, true, false, ◌&&◌, ◌||◌, List, [], ◌∷◌, ℕ, zero, suc, ◌+◌, ◌*◌, ◌-◌, ◌/◌, ◌%◌, length, drop, ◌==◌, nat_eq, nat_le, nat_lt, if◌then◌else◌}
 use Rattle.std.proofs.Math.Option.{Option, some, none}
 use Rattle.numbers.specs.Sections.{info_code, tu_index_code}
@@ -50,8 +49,8 @@ step_of at s kind rest =
     if kind == 1
     then object_step rest
     else if kind == 2
-        then section_step at s (rest / 0x80_0000) (rest % 0x80_0000)
-        else if kind == 3 then end_step at s rest else broken
+    then section_step at s (rest / 0x80_0000) (rest % 0x80_0000)
+    else if kind == 3 then end_step at s rest else broken
 
 -- s is the bundle from a place on
 unfoldable pub step_at : ℕ → List ℕ → Step

@@ -1,5 +1,4 @@
 -- The code's form of an encoding, which holds only what 4 lets pass.
--- Assumes nothing.
 use Rattle.std.specs.Prelude.{Bool, true, false, ℕ}
 use Rattle.numbers.specs.Tables.{dwarf5}
 use Rattle.octets.specs.Checked.{Check, pass, ◌>>=◌, require}

@@ -1,5 +1,4 @@
--- What an object word states, and 4: the version is 4 or 5, the offset width and the address size are 4 or 8 bytes.
--- Assumes nothing.
+-- What an object word states (FORMAT 2.4), and 4: the version is 4 or 5, the offset width and the address size are 4 or 8 bytes.
 use Rattle.std.specs.Prelude.{Bool, ◌&&◌, ◌||◌, ℕ, ◌/◌, ◌%◌, ◌==◌}
 use Rattle.numbers.specs.Tables.{dwarf4, dwarf5}
 

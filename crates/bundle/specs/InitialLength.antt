@@ -1,5 +1,4 @@
--- DWARF's initial length, which says how many bytes follow it: a number of 4 bytes; or FFFFFFFF, and a number of 8 bytes behind it. Who reads one says what is refused.
--- Assumes nothing.
+-- DWARF's initial length (DWARF 5, 7.4), which says how many bytes follow it: a number of 4 bytes; or FFFFFFFF, and a number of 8 bytes behind it. Who reads one says what is refused.
 use Rattle.std.specs.Prelude.{Bool, true, false, List, ℕ, ◌==◌, if◌then◌else◌}
 use Rattle.octets.specs.Octets.{number_at}
 use Rattle.bundle.specs.Encoding.{Encoding}

@@ -1,6 +1,5 @@
--- Document 01, "The bundle handed in": reading a bundle's words (1, 3), what an object word states (4), a bundle written. InitialLength: DWARF's, in units and str_offsets.
+-- FORMAT 2: reading a bundle's words (1, 3), what an object word states (4), a bundle written. InitialLength: DWARF's, in units and str_offsets.
 -- Next and Scan say what the functions of this crate answer, from these definitions.
--- Assumes nothing.
 pub mod Bundle
 pub mod Encoding
 pub mod Encoded

@@ -1,5 +1,4 @@
 -- What the functions that read a bundle's words answer, from the definitions.
--- Assumes nothing.
 use Rattle.std.specs.Prelude.{List, ℕ, ◌+◌}
 use Rattle.octets.specs.Checked.{Check, pass, refuse, ◌>>=◌, require, mapped}
 use Rattle.numbers.specs.Refusals.{bad_words}

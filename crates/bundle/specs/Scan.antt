@@ -1,5 +1,4 @@
 -- The sections of one object, listed by code: how many there are, and where the first lies. And how many bytes the str_offsets sections of a bundle have.
--- Assumes nothing.
 use Rattle.std.specs.Prelude.{◌≡◌, Bool, true, false, ◌||◌, List, [], ◌∷◌, ℕ, zero, suc, ◌+◌, ◌<◌, drop, set, ◌==◌, slice_index, if◌then◌else◌}
 use Rattle.std.proofs.Math.Option.{Option, some, none}
 use Rattle.numbers.specs.Sections.{info_code, types_code, str_offsets_code, section_codes}

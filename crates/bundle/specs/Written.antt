@@ -1,5 +1,4 @@
 -- A bundle written: head, objects with their sections, end.
--- Assumes nothing.
 use Rattle.std.specs.Prelude.{Bool, true, false, List, ◌++◌, map, ℕ, ◌+◌, ◌*◌, ◌-◌, ◌/◌, length}
 use Rattle.octets.specs.Octets.{bytes_of, zeros}
 use Rattle.octets.specs.Lists.{joined}

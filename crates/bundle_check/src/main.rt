@@ -95,7 +95,7 @@ fn show_good(rt: &impl Print) -> io::Result<()> {
     show(rt, "words in a section", &looks)
 }
 
-// The bundle of document 01's whole package.
+// The bundle of FORMAT 14.
 fn show_document(rt: &impl Print) -> io::Result<()> {
     let unit = [
         0xF000_0000,
@@ -110,7 +110,7 @@ fn show_document(rt: &impl Print) -> io::Result<()> {
         0,
         0x3000_000B,
     ];
-    show(rt, "document 01", &unit)
+    show(rt, "example", &unit)
 }
 
 fn show_heads(rt: &impl Print) -> io::Result<()> {

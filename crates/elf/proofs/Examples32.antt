@@ -1,5 +1,4 @@
 -- Small ELF32 files read, as the checker computes them: what is read in both byte orders, and files for 31, 32, 33 and 18.
--- Assumes nothing.
 use mathlib.Core.Path.{◌≡◌, refl}
 use mathlib.Core.Bool.{Bool, true, false}
 use mathlib.Core.List.{List, [], ◌∷◌, ◌++◌}

@@ -1,5 +1,4 @@
--- Laws of ticket 2's definitions.
--- Assumes nothing.
+-- Laws of the definitions of reading a file.
 pub mod Headers
 pub mod Names
 pub mod Judged

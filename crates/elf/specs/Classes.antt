@@ -1,5 +1,4 @@
 -- The headers of a file of either class. Nothing here need be believed.
--- Assumes nothing.
 use Rattle.std.specs.Prelude.{Bool, List, ℕ}
 use Rattle.elf.specs.File.{Header, headers_at}
 use Rattle.elf.specs.Elf32.{headers32_at}

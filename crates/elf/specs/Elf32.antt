@@ -1,5 +1,4 @@
 -- An ELF32 file read into a bundle of one object: what an ELF64 file states, in narrower fields. From the section headers on both are read by one definition.
--- Assumes nothing.
 use Rattle.std.specs.Prelude.{Bool, ◌||◌, List, [], ◌∷◌, ℕ, zero, suc, ◌+◌, ◌*◌, ◌==◌, nat_le, nat_lt, length, take, slice_index}
 use Rattle.octets.specs.Octets.{number_at}
 use Rattle.octets.specs.Lists.{same}

@@ -1,5 +1,4 @@
--- An ELF64 file, as ticket 2 reads it: its section headers, their names, and the sections that are wanted (31).
--- Assumes nothing.
+-- An ELF64 file, as it is read (FORMAT 8.1 and 8.2): its section headers, their names, and the sections that are wanted (31).
 use Rattle.std.specs.Prelude.{Bool, true, false, not, ◌||◌, List, [], ◌∷◌, ◌++◌, ℕ, zero, suc, ◌+◌, ◌*◌, length, take, drop, ◌==◌, nat_eq, nat_le, nat_lt, slice_index, if◌then◌else◌}
 use Rattle.octets.specs.Octets.{part, number_at}
 use Rattle.octets.specs.Lists.{all, any, those, same}

@@ -1,5 +1,4 @@
 -- What the code's values are by the definitions, and what holds of them. Nothing here need be believed.
--- Assumes nothing.
 use Rattle.std.specs.Prelude.{◌≡◌, ◌≢◌, Option, Some, None, Bool, true, false, not, ◌&&◌, ◌||◌, List, [], ◌∷◌, ◌++◌, map, ℕ, ◌+◌, ◌*◌, ◌-◌, ◌<◌, ◌≤◌, length, slice_index, EachIndex, MatchOption, ◌==◌, nat_le, nat_lt, slice_index_or, if◌then◌else◌}
 use Rattle.octets.specs.Octets.{number_at, zeros, padded}
 use Rattle.octets.specs.Lists.{all, joined, sum, those}

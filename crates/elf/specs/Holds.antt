@@ -1,6 +1,5 @@
--- What a bundle that was read from a file holds: read by document 01's rules, it is one object with the wanted sections, in the order of their headers,
+-- What a bundle that was read from a file holds: read as a bundle, it is one object with the wanted sections, in the order of their headers,
 -- each with the bytes that the file has for it, and nothing else.
--- Assumes nothing.
 use Rattle.std.specs.Prelude.{◌≡◌, List, [], ◌∷◌, map, ℕ}
 use Rattle.octets.specs.Octets.{part}
 use Rattle.octets.specs.Checked.{Check, pass}

@@ -1,5 +1,4 @@
 -- ELF64 files read into bundles (31, 32, 33, 19, 18), and packages written as ELF64 files (36, 21, 37).
--- Assumes nothing.
 pub mod File
 pub mod Reader
 pub mod Elf32

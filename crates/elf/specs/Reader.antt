@@ -1,5 +1,4 @@
--- Ticket 2: an ELF64 file read into a bundle of one object. 31, 32, 33, 19 and 18, in this order.
--- Assumes nothing.
+-- An ELF64 file read into a bundle of one object: 31, 32, 33, 19 and 18, in this order (FORMAT 8.2).
 use Rattle.std.specs.Prelude.{Bool, true, false, not, ◌&&◌, ◌||◌, List, [], ◌∷◌, map, ℕ, ◌+◌, ◌*◌, ◌/◌, ◌%◌, length, ◌==◌, nat_le, slice_index, if◌then◌else◌}
 use Rattle.octets.specs.Octets.{number_at}
 use Rattle.octets.specs.Lists.{all, any}

@@ -1,6 +1,5 @@
--- Ticket 9: a package written as an ELF64 relocatable file: ELF header, section bytes, name table, zeros up to a multiple of 8, section headers. 36, 21 and 37,
+-- A package written as an ELF64 relocatable file (FORMAT 8.3): ELF header, section bytes, name table, zeros up to a multiple of 8, section headers. 36, 21 and 37,
 -- in this order.
--- Assumes nothing.
 use Rattle.std.specs.Prelude.{Bool, true, false, ◌&&◌, ◌||◌, List, [], ◌∷◌, ◌++◌, map, ℕ, ◌+◌, ◌*◌, ◌-◌, ◌/◌, nat_le, length, ◌==◌, if◌then◌else◌}
 use Rattle.numbers.specs.Names.{section_name}
 use Rattle.numbers.specs.Refusals.{other_machine, file_short}
@@ -12,7 +11,7 @@ use Rattle.bundle.specs.Written.{Section}
 use Rattle.lookup.specs.Lookup.{package_of, codes}
 use Rattle.answers.specs.Answers.{Answer, refused, made}
 
--- ---- 36: "machine 62, 183 or 243"
+-- ---- 36: the machines that a file is written for
 abbrev pub amd64 : ℕ
 amd64 = 62
 
@@ -29,14 +28,14 @@ machine_good machine = machine == amd64 || machine == aarch64 || machine == risc
 unfoldable pub is_machine : ℕ → Bool
 is_machine machine = nat_le 1 machine && nat_le machine 0xFFFF
 
--- ---- sections "in order of code": every one that is there, empty ones too
+-- ---- sections, by code: every one that is there, empty ones too
 unfoldable pub sections_here : List ℕ → List Part → List Section
 sections_here p ps = map (λ c. record { code = c; bytes = body p ps c }) (those (λ c. nat_le 1 (count ps c)) codes)
 
 unfoldable pub bodies : List Section → List ℕ
 bodies ss = joined (map (λ s. s.bytes) ss)
 
--- ---- the name table: "Names stand in the name table in header order after one zero byte", each ended by a zero
+-- ---- the name table: a zero byte, then a name for each header but the null one, in their order, each ended by a zero
 -- `.shstrtab`
 unfoldable pub table_name : List ℕ
 table_name = 46 ∷ 115 ∷ 104 ∷ 115 ∷ 116 ∷ 114 ∷ 116 ∷ 97 ∷ 98 ∷ []
@@ -58,7 +57,7 @@ program_bits = 1
 abbrev pub string_table : ℕ
 string_table = 3
 
--- name, type; flags, address, offset, size; link, info; alignment, entry size: "All flags, addresses, links, section infos and section entry sizes are zero, alignment 1"
+-- name, type; flags, address, offset, size; link, info; alignment, which is 1, and entry size. What isn't named, placed or measured here is zero
 unfoldable pub section_header : Bool → ℕ → ℕ → ℕ → ℕ → List ℕ
 section_header big name kind offset size =
     numbers_of big 4 (name ∷ kind ∷ []) ++ numbers_of big 8 (0 ∷ 0 ∷ offset ∷ size ∷ []) ++ numbers_of big 4 (0 ∷ 0 ∷ []) ++ numbers_of big 8 (1 ∷ 0 ∷ [])
@@ -70,7 +69,7 @@ headers_from big table name at (s ∷ ss) =
     section_header big name program_bits at (length s.bytes)
     ++ headers_from big table (name + length (section_name s.code) + 1) (at + length s.bytes) ss
 
--- "the null one, all zero" comes first
+-- one of zeros comes first
 unfoldable pub headers : Bool → List Section → List ℕ
 headers big ss = zeros header_size ++ headers_from big (length (name_table ss)) 1 header_size ss
 
@@ -117,7 +116,7 @@ file_judged takes p machine = do
   _ ← require (takes machine) other_machine
   file_made p machine
 
--- "then 37 for a short output": for an output of o bytes
+-- 37 comes last: for an output of o bytes
 unfoldable pub in_output : Check (List ℕ) → ℕ → Answer
 in_output (refuse n) o = refused n
 in_output (pass file) o = if nat_le (length file) o then made file else refused file_short

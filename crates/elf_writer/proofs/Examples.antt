@@ -1,6 +1,5 @@
 -- Packages written as ELF files, as the checker computes it: the whole file of a package of one unit, whole files of both byte orders, and the refusals.
 -- The bytes come from elsewhere: host/kit/tests/vectors/write-elf.txt has the three files, and docs/OPENING.md reads the first one by hand.
--- Assumes nothing.
 use mathlib.Core.Path.{◌≡◌, refl}
 use mathlib.Core.Bool.{false}
 use mathlib.Core.List.{List, [], ◌∷◌, ◌++◌}

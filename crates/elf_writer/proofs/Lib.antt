@@ -1,5 +1,4 @@
 -- Laws that the proofs of the writer cite.
--- Assumes nothing.
 pub mod Codes
 pub mod Headers
 pub mod Cases

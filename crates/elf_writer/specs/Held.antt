@@ -1,5 +1,4 @@
 -- The parts of a file by section codes, as the code measures and writes them: what a section that is missing adds is empty. Nothing here need be believed.
--- Assumes nothing.
 use Rattle.std.specs.Prelude.{◌≡◌, Bool, true, false, List, [], ◌∷◌, ◌++◌, map, ℕ, ◌+◌, ◌*◌, ◌-◌, ◌≤◌, ◌<◌, length, drop, nat_le, slice_index, if◌then◌else◌}
 use Rattle.numbers.specs.Sections.{section_codes}
 use Rattle.numbers.specs.Names.{section_name}

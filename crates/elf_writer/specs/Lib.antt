@@ -1,3 +1,2 @@
 -- What the code that writes ELF files holds, by the definitions.
--- Assumes nothing.
 pub mod Held

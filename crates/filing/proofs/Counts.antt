@@ -1,5 +1,4 @@
 -- 6 and 7 by counts: the cases of the code, and that they are the definitions.
--- Assumes nothing.
 use mathlib.Core.Path.{◌≡◌, refl}
 use mathlib.Core.Bool.{Bool, true, false, not, ◌&&◌, ◌||◌}
 use mathlib.Core.List.{List, [], ◌∷◌}

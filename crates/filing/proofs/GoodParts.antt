@@ -1,5 +1,4 @@
 -- 8 and 9 part by part, as code judges them: first where the first part starts that 8 refuses, then the strings of those before it.
--- Assumes nothing.
 use mathlib.Core.Path.{◌≡◌, refl, sym, ap, ◌∙◌, subst}
 use mathlib.Core.Logic.{⊎_elim}
 use mathlib.Core.List.{List, [], ◌∷◌, ◌++◌, map}

@@ -1,5 +1,4 @@
 -- What reading an object requires: its sections lie in the bundle, and the table has room for its strings.
--- Assumes nothing.
 use mathlib.Core.Path.{◌≡◌}
 use mathlib.Core.Bool.{Bool}
 use mathlib.Core.List.{List}

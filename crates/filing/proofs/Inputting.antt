@@ -1,5 +1,4 @@
 -- The checks of one object, in the order of `input_of`: 4 to 7, then what is opened, in either order.
--- Assumes nothing.
 use mathlib.Core.Path.{◌≡◌, refl, sym, ap}
 use mathlib.Core.Bool.{Bool, true, false}
 use mathlib.Core.List.{List, [], ◌∷◌, append-nil}

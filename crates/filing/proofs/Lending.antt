@@ -1,5 +1,4 @@
 -- A region of work is lent: what is filed is filed still.
--- Assumes nothing.
 use mathlib.Core.Path.{◌≡◌, sym, subst}
 use mathlib.Core.Bool.{Bool}
 use mathlib.Core.List.{List}

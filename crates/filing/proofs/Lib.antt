@@ -1,5 +1,4 @@
 -- Laws of filing: one unit more, the answers of filing it, and what the loops over units, sections and objects keep.
--- Assumes nothing.
 pub mod Telling
 pub mod Counts
 pub mod Judging

@@ -1,5 +1,4 @@
 -- The walk over the sections of units of one object: what the loop keeps, for every input and every list of units filed before.
--- Assumes nothing.
 use mathlib.Core.Path.{◌≡◌, refl, sym, ap, ◌∙◌, subst}
 use mathlib.Core.Logic.{◌⊎◌, inl, inr}
 use mathlib.Core.Bool.{Bool}

@@ -1,5 +1,4 @@
 -- The store cut out of work to put strings: the words of the table at the front of the strings' region, and behind that region a word of memory for each byte of the bundle.
--- Assumes nothing.
 use mathlib.Core.Path.{◌≡◌, refl, sym, ap, ap₂, ◌∙◌, subst}
 use mathlib.Core.List.{List, ◌++◌, append_assoc}
 use Prim.Native.Nat.{ℕ, ◌+◌, ◌*◌, ◌-◌, ◌≤◌}

@@ -1,5 +1,4 @@
 -- The answers of opening a package of version 5, each from those of its checks: 10, 34, 8, 9.
--- Assumes nothing.
 use mathlib.Core.Path.{◌≡◌, refl, sym, ap, ap₂, ◌∙◌, subst}
 use mathlib.Core.Logic.{inl, inr, ⊎_elim}
 use mathlib.Core.Bool.{true}

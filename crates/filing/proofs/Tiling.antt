@@ -1,5 +1,4 @@
 -- 34 by marks, and 8 and 9 part by part, as code answers them.
--- Assumes nothing.
 use mathlib.Core.Path.{◌≡◌, refl, sym, ap, ◌∙◌, subst}
 use mathlib.Core.Bool.{Bool, true, false}
 use mathlib.Core.List.{List, [], ◌++◌, map, append-nil}

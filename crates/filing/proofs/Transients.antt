@@ -1,5 +1,4 @@
 -- The regions that count for one section or one table: what is at hand stays while they are written, and they stay while units are filed.
--- Assumes nothing.
 use mathlib.Core.Path.{◌≡◌, refl, sym, subst}
 use mathlib.Core.Logic.{inr}
 use mathlib.Core.List.{List}

@@ -1,5 +1,4 @@
 -- What the functions that file units answer, from the definitions.
--- Assumes nothing.
 use Rattle.std.specs.Prelude.{◌≡◌, List, [], ◌∷◌, ◌++◌, ℕ, ◌+◌, length, Result}
 use Rattle.octets.specs.Checked.{Check}
 use Rattle.numbers.specs.declared.refusals.Refusal.{Refusal}

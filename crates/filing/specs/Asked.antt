@@ -1,5 +1,4 @@
 -- What the functions that file units require and ensure, each under one name. These only tie code to definitions.
--- Assumes nothing.
 use Rattle.std.specs.Prelude.{◌≡◌, Bool, List, [], ◌∷◌, ◌++◌, ℕ, suc, ◌+◌, ◌-◌, ◌<◌, ◌≤◌, length, take, drop, Result}
 use Rattle.octets.specs.Checked.{mapped}
 use Rattle.numbers.specs.Refused.{told}

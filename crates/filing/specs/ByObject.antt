@@ -1,5 +1,4 @@
 -- What the functions that file whole objects answer, from the definitions.
--- Assumes nothing.
 use Rattle.std.specs.Prelude.{◌≡◌, Bool, true, false, List, [], ◌++◌, ℕ, ◌+◌, ◌*◌, ◌/◌, ◌≤◌, length, Result, ◌==◌, nat_le, slice_index, if◌then◌else◌}
 use Rattle.std.proofs.Math.Option.{Option}
 use Rattle.numbers.specs.Tables.{dwarf5}

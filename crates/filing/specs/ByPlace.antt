@@ -1,5 +1,4 @@
 -- Rows by place, and the abbreviations that a unit is read with, as code holds them. Nothing here need be believed: it ties work words to `package/specs/Filing.antt`.
--- Assumes nothing.
 use Rattle.std.specs.Prelude.{◌≡◌, Result, List, ℕ, ◌+◌, ◌*◌, ◌-◌, ◌/◌, ◌≤◌, length}
 use Rattle.numbers.specs.declared.refusals.Refusal.{Refusal}
 use Rattle.octets.specs.Checked.{Check}

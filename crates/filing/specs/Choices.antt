@@ -1,5 +1,4 @@
 -- A unit that was read, and one that is to be kept.
--- Assumes nothing.
 use Rattle.std.specs.Prelude.{◌≡◌, Bool, false, List, ℕ, ◌+◌, ◌-◌, ◌^◌, ◌<◌, ◌≤◌, length, Result, Ok, Err}
 use Rattle.numbers.specs.Tables.{compilation_table}
 use Rattle.numbers.specs.Tabled.{table_number}

@@ -1,5 +1,4 @@
 -- 15 and 16 by an index or none.
--- Assumes nothing.
 use Rattle.std.specs.Prelude.{Bool, not, List, ℕ, Result}
 use Rattle.std.proofs.Math.Option.{Option, some, none}
 use Rattle.numbers.specs.Refusals.{no_row}

@@ -1,5 +1,4 @@
 -- 6 and 7 by how many sections of each code there are, as code counts them. Nothing here need be believed: laws say that it is `edition_good` and `complete`.
--- Assumes nothing.
 use Rattle.std.specs.Prelude.{Bool, true, false, not, ◌&&◌, ◌||◌, List, [], ◌∷◌, ℕ, nat_le, slice_index}
 use Rattle.numbers.specs.Sections.{info_code, types_code, abbrev_code, loc_code, str_offsets_code, macinfo_code, loclists_code, rnglists_code, str_code, cu_index_code, tu_index_code}
 use Rattle.octets.specs.Lists.{all}

@@ -1,5 +1,4 @@
 -- An object by value, and the definition's.
--- Assumes nothing.
 use Rattle.std.specs.Prelude.{◌≡◌, Bool, true, false, ◌&&◌, ◌||◌, Option, Some, None, is_some, Result, List, ℕ, ◌+◌, ◌<◌, ◌≤◌, length, ◌==◌, slice_index, if◌then◌else◌}
 use Rattle.std.proofs.Math.Option as math
 use Rattle.numbers.specs.Sections.{cu_index_code, tu_index_code, section_codes}

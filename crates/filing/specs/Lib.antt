@@ -1,5 +1,4 @@
 -- How work holds what is filed. Nothing here need be believed: it ties work words to `package/specs/Filing.antt`.
--- Assumes nothing.
 pub mod Tells
 pub mod Counted
 pub mod Judged

@@ -1,5 +1,4 @@
 -- What stays of work while units or strings are filed; `kept/specs/State.antt` says what is held. Nothing here need be believed.
--- Assumes nothing.
 use Rattle.std.specs.Prelude.{◌≡◌, List, ℕ, ◌/◌, length}
 use Rattle.strings.specs.declared.table.StringTable.{StringTable}
 use Rattle.kept.specs.Regions.{strings_region, rows_region, codes_region, store_region, region, Only}

@@ -1,5 +1,4 @@
 -- What an answer of the code says of a check: it passes or refuses as the check does, and what it gives stands to the check's value in a relation.
--- Assumes nothing.
 use Rattle.std.specs.Prelude.{◌≡◌, Result, Ok, Err}
 use Rattle.octets.specs.Checked.{Check, pass, refuse}
 use Rattle.numbers.specs.Refused.{number_of}

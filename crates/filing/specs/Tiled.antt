@@ -1,5 +1,4 @@
 -- What the functions for a package of version 5 require and ensure: 34, then 8 and 9 part by part.
--- Assumes nothing.
 use Rattle.std.specs.Prelude.{◌≡◌, Bool, List, [], ◌++◌, ℕ, ◌+◌, ◌*◌, ◌/◌, ◌≤◌, length, Result, slice_index}
 use Rattle.std.specs.Prelude as code
 use Rattle.std.proofs.Math.Option.{Option}

@@ -1,5 +1,4 @@
 -- A str_offsets section cut by its headers: the pieces of an input that passed, its strings, and what is written of it.
--- Assumes nothing.
 use mathlib.Core.Path.{◌≡◌, refl, sym, ap, ap₂, ◌∙◌, subst}
 use mathlib.Core.Logic.{⊎_elim}
 use mathlib.Core.Bool.{Bool, true, false, ◌&&◌, ◌||◌}

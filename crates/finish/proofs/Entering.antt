@@ -1,5 +1,4 @@
 -- Behind an object's word: its sections lie in the bundle, a scan names them, and the pass goes on behind them.
--- Assumes nothing.
 use mathlib.Core.Path.{◌≡◌, refl, sym, ap, ◌∙◌}
 use mathlib.Core.List.{List, [], ◌∷◌, ◌++◌}
 use mathlib.Core.Option.{Option, some, none}

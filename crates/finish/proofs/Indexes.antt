@@ -1,5 +1,4 @@
 -- A table's index: the records in work, the slots placed from them, and the definition's bytes.
--- Assumes nothing.
 use mathlib.Core.Path.{◌≡◌, refl, sym, ap, subst, ◌∙◌}
 use mathlib.Core.Bool.{Bool, true}
 use mathlib.Core.List.{List, [], ◌∷◌}

@@ -1,5 +1,4 @@
 -- A loop over the objects of a bundle that puts what each object gives behind what the objects before it gave.
--- Assumes nothing.
 use mathlib.Core.Path.{◌≡◌, refl, sym, ap, ◌∙◌}
 use mathlib.Core.List.{List, [], ◌∷◌, ◌++◌, map}
 use Prim.Native.Nat.{ℕ, ◌+◌, ◌≤◌}

@@ -1,5 +1,4 @@
 -- Packing behind 1 and 2 is what finishing answers.
--- Assumes nothing.
 use mathlib.Core.Path.{◌≡◌, ap, ◌∙◌}
 use mathlib.Core.Bool.{true}
 use mathlib.Core.List.{List}

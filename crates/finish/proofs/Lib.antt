@@ -1,5 +1,4 @@
 -- Laws of finishing.
--- Assumes nothing.
 pub mod Entering
 pub mod JoinedObjects
 pub mod Cutting

@@ -1,5 +1,4 @@
 -- The objects of a bundle and the inputs that they are: one for each, with the same bytes.
--- Assumes nothing.
 use mathlib.Core.Path.{◌≡◌, refl, ap₂, subst}
 use mathlib.Core.Bool.{Bool}
 use mathlib.Core.List.{List, [], ◌∷◌, ◌++◌, map}

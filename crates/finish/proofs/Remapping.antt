@@ -1,5 +1,4 @@
 -- The shared sections of objects, one behind the other. Of str_offsets the places of the strings of an object stand behind those of the objects before it.
--- Assumes nothing.
 use mathlib.Core.Path.{◌≡◌, refl, sym, ap, ap₂, ◌∙◌, subst}
 use mathlib.Core.Bool.{Bool, true, false}
 use mathlib.Core.Logic.{⊎_elim, inl, inr, ◌⊎◌}

@@ -1,5 +1,4 @@
 -- Sizes by code: the turns of loops over them, and what they say of the sections.
--- Assumes nothing.
 use mathlib.Core.Path.{◌≡◌, refl, sym, ap, ◌∙◌}
 use mathlib.Core.Logic.{⊎_elim}
 use mathlib.Core.Bool.{Bool, true, false}

@@ -1,5 +1,4 @@
 -- Steps of the functions that write: an index, a section with its word, the empty package.
--- Assumes nothing.
 use mathlib.Core.Path.{◌≡◌, sym, ap, ap₂, ◌∙◌}
 use mathlib.Core.Bool.{Bool}
 use mathlib.Core.List.{List, [], ◌++◌, append-nil}

@@ -1,5 +1,4 @@
 -- An object word that 4 lets pass, as the code reads it.
--- Assumes nothing.
 use mathlib.Core.Path.{◌≡◌, sym, ap, ◌∙◌}
 use mathlib.Core.Bool.{true}
 use lib.Dec.{eqb}

@@ -1,5 +1,4 @@
 -- The rest of `judged` of `package/specs/Pack.antt`, from a bundle whose length and work are good; and what the packer has by then.
--- Assumes nothing.
 use Rattle.std.specs.Prelude.{◌≡◌, Bool, Result, List, [], ◌∷◌, map, ℕ, ◌/◌, ◌%◌, ◌≤◌, length, ◌==◌, nat_le}
 use Rattle.numbers.specs.Tables.{dwarf5}
 use Rattle.numbers.specs.Limits.{section_limit}

@@ -1,5 +1,4 @@
 -- The answers of finishing, and how work holds what is to be written. The definitions are those of `package/specs/Pack.antt`.
--- Assumes nothing.
 pub mod Joining
 pub mod Sections
 pub mod Writing

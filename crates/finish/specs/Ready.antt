@@ -1,5 +1,4 @@
 -- What the packer has when all objects are filed and both tables are placed, towards the sections of the package by code.
--- Assumes nothing.
 use Rattle.std.specs.Prelude.{◌≡◌, Bool, true, false, List, [], ◌∷◌, ◌++◌, ℕ, ◌+◌, ◌*◌, ◌-◌, ◌/◌, ◌<◌, ◌≤◌, length, set, ◌==◌, slice_index, if◌then◌else◌}
 use Rattle.numbers.specs.Sections.{info_code, types_code, str_offsets_code, str_code, cu_index_code, tu_index_code, section_codes, first_shared, last_shared}
 use Rattle.octets.specs.Octets.{placed, padded, zeros}

@@ -1,5 +1,4 @@
 -- The sections of a package by code, 1 to 13, and the length of the package by their sizes.
--- Assumes nothing.
 use Rattle.std.specs.Prelude.{◌≡◌, Bool, true, false, List, [], ◌∷◌, ℕ, zero, suc, ◌+◌, ◌<◌, ◌≤◌, length, ◌==◌, nat_le, slice_index, if◌then◌else◌}
 use Rattle.numbers.specs.Limits.{section_limit}
 use Rattle.numbers.specs.Sections.{section_codes}
@@ -15,7 +14,7 @@ sections_from bytes c (suc n) = record { code = c; bytes = bytes c } ∷ section
 unfoldable pub not_empty : Section → Bool
 not_empty s = nat_le 1 (length s.bytes)
 
--- "each non-empty section once in order of code"
+-- those of all codes that aren't empty, rising
 unfoldable pub sections_by : (ℕ → List ℕ) → List Section
 sections_by bytes = those not_empty (sections_from bytes 1 13)
 

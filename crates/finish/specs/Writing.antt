@@ -1,5 +1,4 @@
 -- A package that is being written: what stands in the output, and what is left.
--- Assumes nothing.
 use Rattle.std.specs.Prelude.{◌≡◌, Bool, List, ◌++◌, map, ℕ, ◌+◌, ◌-◌, ◌≤◌, length}
 use Rattle.numbers.specs.Sections.{section_codes}
 use Rattle.octets.specs.Octets.{padded}

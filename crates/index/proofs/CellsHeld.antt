@@ -1,5 +1,4 @@
 -- What is read of a unit's cells is what it contributes.
--- Assumes nothing.
 use mathlib.Core.Path.{◌≡◌, refl, ap, ◌∙◌}
 use mathlib.Core.Option.{Option, some, none}
 use Prim.Native.Nat.{ℕ}

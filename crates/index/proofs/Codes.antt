@@ -1,5 +1,4 @@
 -- Laws of the tests that an index is well formed, one for each turn of a loop.
--- Assumes nothing.
 use mathlib.Core.Path.{◌≡◌, sym}
 use mathlib.Core.Bool.{true, false, ◌&&◌}
 use mathlib.Core.List.{List}

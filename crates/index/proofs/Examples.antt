@@ -1,5 +1,4 @@
 -- Slots and probing, the order of columns in both versions, which indexes are well formed, the parts of a row, rows by the place that they name, and parts that tile.
--- Assumes nothing.
 use mathlib.Core.Path.{◌≡◌, refl}
 use mathlib.Core.Bool.{Bool, true, false}
 use mathlib.Core.List.{List, [], ◌∷◌, ◌++◌, map}

@@ -1,5 +1,4 @@
 -- Contributions filled in code by code.
--- Assumes nothing.
 -- ---- which codes are needed
 use mathlib.Core.Path.{◌≡◌, refl, sym, ap, ◌∙◌}
 use mathlib.Core.Bool.{Bool, true, false, not, ◌&&◌}

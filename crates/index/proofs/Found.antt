@@ -1,5 +1,4 @@
 -- What is placed is found, and nothing else: after `slots_of xs`, a search for each of xs ends at its slot, and for anything else at an unused slot.
--- Assumes nothing.
 use mathlib.Core.Path.{◌≡◌, sym, ap, ◌∙◌, subst}
 use mathlib.Core.List.{List}
 use Prim.Native.Nat.{ℕ, zero, suc, ◌+◌, ◌-◌, ◌^◌, ◌<◌, ◌≤◌}

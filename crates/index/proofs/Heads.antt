@@ -1,5 +1,4 @@
 -- Where the numbers of an index lie, and what its head tells.
--- Assumes nothing.
 -- number k of a table that starts at a place
 use mathlib.Core.Path.{◌≡◌, refl, sym, ap, ◌∙◌}
 use mathlib.Core.Bool.{Bool, true, ◌||◌}

@@ -1,5 +1,4 @@
 -- Tests of one cell, by case; and loops over the shared sections' codes.
--- Assumes nothing.
 -- ---- one cell
 use mathlib.Core.Path.{◌≡◌, refl, sym, ap, ◌∙◌}
 use mathlib.Core.Bool.{Bool, true, false, not, ◌||◌}

@@ -1,5 +1,4 @@
 -- Cells of an index that was written: a row's own contribution, zeros where only other rows have one, none where no row has it or the form has no column.
--- Assumes nothing.
 use mathlib.Core.Path.{◌≡◌, refl, ap, ◌∙◌}
 use mathlib.Core.Bool.{Bool, true, false}
 use mathlib.Core.List.{List}

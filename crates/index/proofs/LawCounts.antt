@@ -1,5 +1,4 @@
 -- Slots that are used, counted: as many as there are distinct used slots at least. The first of some numbers that is zero.
--- Assumes nothing.
 use mathlib.Core.Path.{◌≡◌, refl, sym, ap, ◌∙◌}
 use mathlib.Core.Logic.{◌⊎◌, inl, inr, ⊎_elim}
 use mathlib.Core.List.{List, [], ◌∷◌}

@@ -1,5 +1,4 @@
 -- The version of an index written is its form's, and there is no index without rows.
--- Assumes nothing.
 use mathlib.Core.Path.{◌≡◌, refl}
 use mathlib.Core.Bool.{Bool}
 use mathlib.Core.List.{List, []}

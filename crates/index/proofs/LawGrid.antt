@@ -1,5 +1,4 @@
 -- A grid of numbers, one for each row and column: its length, its entries, and bounds of numbers in lists.
--- Assumes nothing.
 use mathlib.Core.Path.{◌≡◌, ◌∙◌}
 use mathlib.Core.List.{List, [], ◌∷◌, ◌++◌, map}
 use mathlib.Core.Option.{Option, none}

@@ -1,5 +1,4 @@
 -- Where identities lie that were placed: each behind slots that others use.
--- Assumes nothing.
 use mathlib.Core.Path.{◌≡◌, sym, ap, ◌∙◌}
 use mathlib.Core.Bool.{true}
 use mathlib.Core.List.{List}

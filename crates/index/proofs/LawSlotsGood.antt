@@ -1,5 +1,4 @@
 -- The slots of a written index are good: row numbers up to the units, zero where the identity is and only there.
--- Assumes nothing.
 use mathlib.Core.Path.{◌≡◌, refl, sym, ◌∙◌}
 use mathlib.Core.Bool.{true}
 use mathlib.Core.List.{List, [], ◌∷◌}

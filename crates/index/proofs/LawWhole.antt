@@ -1,5 +1,4 @@
 -- An index from rows to answers: written, read back, and probed: each row's identity is found with its row number, anything else is absent.
--- Assumes nothing.
 use mathlib.Core.Path.{◌≡◌, refl, ap, ◌∙◌}
 use mathlib.Core.Bool.{Bool, false}
 use mathlib.Core.List.{List, [], ◌∷◌}

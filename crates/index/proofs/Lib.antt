@@ -1,5 +1,4 @@
 -- Laws of indexes: probing, placing, contributions, an index written and read back; and what the proofs of the code cite.
--- Assumes nothing.
 pub mod CellsHeld
 pub mod Contributions
 pub mod Examples

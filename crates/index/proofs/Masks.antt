@@ -1,5 +1,4 @@
 -- Masks of powers of two are remainders, and `| 1` makes odd.
--- Assumes nothing.
 use mathlib.Core.Path.{◌≡◌, refl, sym, ap, ◌∙◌}
 use Prim.Native.Nat.{ℕ, zero, suc, ◌+◌, ◌*◌, ◌-◌, ◌/◌, ◌%◌, ◌^◌, ◌<◌, ◌≤◌}
 use native.Mathlib.Nat.{mod-lt, pow-succ', pow-le-pow_right, one-mul, mul-one, mul_assoc, mul_left_comm}

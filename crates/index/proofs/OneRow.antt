@@ -1,5 +1,4 @@
 -- The one row that names a place of info: a search whose row names that place has ended at it. So a row's own place says what its number would.
--- Assumes nothing.
 use mathlib.Core.Path.{◌≡◌, refl, sym, ap, ◌∙◌, subst}
 use mathlib.Core.Logic.{⊎_elim}
 use mathlib.Core.Bool.{Bool, true, false}
@@ -59,7 +58,7 @@ module _ (big : Bool) (s : List ℕ) (i : Index) (e : index_of big s ≡ pass i)
   pub row_listed : (r : ℕ) → row_of i (probe i x) ≡ pass r → has (row_numbers i.units) r ≡ true
   row_listed r q = let c = row_counted r q in numbered i.units r c.0 c.1
 
-  -- "the lookup of the identity read must end at that row"
+  -- the search for the identity that was read ends at that row
   pub search_ends : (width : ℕ) (lengths : BySection ℕ) (at size row : ℕ) (g : BySection (Option Contribution)) → the_one (naming i at size) ≡ pass row
       → row_contributions i width lengths x info_code at size ≡ pass g → row_of i (probe i x) ≡ pass row
   unfolding row_contributions naming

@@ -1,5 +1,4 @@
 -- An odd step visits no slot twice in as many steps as there are slots, where their number is a power of two.
--- Assumes nothing.
 use mathlib.Core.Path.{◌≡◌, sym, ap, ◌∙◌}
 use Prim.Native.Nat.{ℕ, zero, suc, ◌+◌, ◌*◌, ◌-◌, ◌/◌, ◌%◌, ◌^◌, ◌<◌}
 use native.Mathlib.Nat.{one-mul, mul-one, mul_assoc, mul_comm, mul-add, add-mul, mul-sub, mul-suc, pow-succ', div-add-mod, mul-zero, zero-mul, suc-mul, mod-eq_of_lt, mod-add-mod, mod-lt}

@@ -1,5 +1,4 @@
 -- Columns by their place, the place of a code among an index's columns, and cells.
--- Assumes nothing.
 -- ---- columns
 use mathlib.Core.Path.{◌≡◌, refl, sym, ap, ◌∙◌}
 use mathlib.Core.Bool.{true, false}

@@ -1,5 +1,4 @@
 -- Placing: identities that are fewer than the slots always find a free slot, since an odd step visits every slot.
--- Assumes nothing.
 use mathlib.Core.Path.{◌≡◌, refl, sym, ap, ◌∙◌}
 use mathlib.Core.List.{List}
 use Prim.Native.Nat.{ℕ, zero, suc, ◌+◌, ◌%◌, ◌<◌}

@@ -1,5 +1,4 @@
 -- A test of a list's elements place by place, as a chain of the code's over the places makes it, is the test of the list.
--- Assumes nothing.
 use mathlib.Core.Path.{◌≡◌, refl, sym, ap, ◌∙◌}
 use mathlib.Core.Bool.{Bool, true, false, cond}
 use mathlib.Core.List.{List, [], ◌∷◌}

@@ -1,5 +1,4 @@
 -- A theorem of its own, which a reader may cite: whatever is wrong with an index, the refusal is 10.
--- Assumes nothing.
 use mathlib.Core.Bool.{Bool}
 use mathlib.Core.List.{List}
 use Prim.Native.Nat.{ℕ}

@@ -1,5 +1,4 @@
 -- Slots under other numbers: where a search ends, and which slot is the first free one, depends only on which slots are unused.
--- Assumes nothing.
 use mathlib.Core.Path.{◌≡◌, refl, sym, ap, ◌∙◌}
 use mathlib.Core.List.{List}
 use Prim.Native.Nat.{ℕ, zero, suc, ◌+◌, ◌%◌}

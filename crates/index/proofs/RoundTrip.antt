@@ -1,5 +1,4 @@
 -- An index written is read back: `index_of` of the bytes written gives the slots, the columns and the cells that went in.
--- Assumes nothing.
 use mathlib.Core.Path.{◌≡◌, sym, ap, ◌∙◌}
 use mathlib.Core.Logic.{⊎_elim}
 use mathlib.Core.Bool.{Bool, true, false, ◌&&◌, ◌||◌}

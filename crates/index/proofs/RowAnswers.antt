@@ -1,5 +1,4 @@
 -- A kept unit's row: the answer where each test fails, and where all pass.
--- Assumes nothing.
 -- ---- what an answer says of the code's
 use mathlib.Core.Path.{◌≡◌, refl, sym, ap, ◌∙◌}
 use mathlib.Core.Bool.{Bool, true, false}

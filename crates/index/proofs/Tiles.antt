@@ -1,5 +1,4 @@
--- 34: parts that tile a section, as definition and in the ticket's words; and the parts that rows name.
--- Assumes nothing.
+-- 34: parts that tile a section, as definition and by the three faults that are refused; and the parts that rows name.
 use mathlib.Core.Path.{◌≡◌, refl, sym, ap, ap₂, ◌∙◌, subst}
 use mathlib.Core.Logic.{◌⊎◌, inl, inr, ⊎_elim}
 use mathlib.Core.Bool.{Bool, true, false}
@@ -210,7 +209,7 @@ module _ (cs : List Contribution) (few : Some cs) where
       all_one f [] c a e = absurd (one_none c e)
       all_one f (d ∷ ds) c a e = ⊎_elim (λ (p : c ≡ d). ap f p ∙ all_head f d ds a) (λ p. all_one f ds c (all_tail f d ds a) p) (one_cases c d ds e)
 
--- ---- "such a part ends outside the section, two different parts overlap or some byte is in none": none of these
+-- ---- no part ends outside the section, no two that differ overlap, no byte is in no part
 pub record Tiled (cs : List Contribution) (n : ℕ) : Type 0 where
   pub inside : (c : Contribution) → is_one cs c ≡ true → c.offset + c.size ≤ n
   pub apart : (c d : Contribution) → is_one cs c ≡ true → is_one cs d ≡ true → (c ≡ d) ⊎ (c.offset + c.size ≤ d.offset) ⊎ (d.offset + d.size ≤ c.offset)

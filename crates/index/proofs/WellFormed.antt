@@ -1,5 +1,4 @@
 -- The tests of an index in their order: the answer where each one fails, and where all pass.
--- Assumes nothing.
 -- ---- the front
 use mathlib.Core.Path.{◌≡◌, refl, sym, ap, ◌∙◌}
 use mathlib.Core.Bool.{Bool, true, false, not, ◌&&◌, ◌||◌}

@@ -1,5 +1,4 @@
 -- The code's forms of a column and of a cell.
--- Assumes nothing.
 use Rattle.std.specs.Prelude as std
 use Rattle.std.proofs.Math.Option.{Option, some, none}
 use Rattle.index.specs.Columns.{Column}

@@ -1,5 +1,4 @@
--- "Columns in order, with codes": which sections an index has columns for, by its version.
--- Assumes nothing.
+-- Which sections an index has columns for, in the order in which they are written, by its form (FORMAT 5.2).
 use Rattle.std.specs.Prelude.{true, false, List, [], ◌∷◌, ℕ, ◌==◌, if◌then◌else◌}
 use Rattle.std.proofs.Math.Option.{Option, some, none}
 use Rattle.numbers.specs.Tables.{index5}
@@ -13,13 +12,13 @@ pub record Column : Type 0 where
 abbrev of : ℕ → ℕ → Column
 of s c = record { section = s; column = c }
 
--- version 4: info 1, types 2, abbrev 3, line 4, loc 5, str_offsets 6, macinfo 7, macro 8
+-- form 2: each column has its section's code
 unfoldable pub columns_four : List Column
 columns_four =
     of info_code 1 ∷ of types_code 2 ∷ of abbrev_code 3 ∷ of line_code 4 ∷ of loc_code 5 ∷ of str_offsets_code 6 ∷ of macinfo_code 7
     ∷ of macro_code 8 ∷ []
 
--- version 5: info 1, abbrev 3, line 4, loclists 5, rnglists 8, str_offsets 6, macro 7
+-- form 5: loclists, rnglists and macro have codes that are not their sections'
 unfoldable pub columns_five : List Column
 columns_five =
     of info_code 1 ∷ of abbrev_code 3 ∷ of line_code 4 ∷ of loclists_code 5 ∷ of rnglists_code 8 ∷ of str_offsets_code 6 ∷ of macro_code 7

@@ -1,5 +1,4 @@
 -- Contributions as the code holds them, by section code in an array.
--- Assumes nothing.
 use Rattle.std.specs.Prelude.{◌≡◌, Bool, true, false, not, ◌&&◌, ◌||◌, List, ℕ, ◌+◌, ◌%◌, length, set, ◌==◌, nat_le, slice_index, slice_index_or, if◌then◌else◌}
 use Rattle.std.proofs.Math.Option.{Option, none}
 use Rattle.numbers.specs.Sections.{str_offsets_code, section_codes}

@@ -1,5 +1,4 @@
 -- What the code holds of an index that was read: its head, beside the section's bytes.
--- Assumes nothing.
 use native.Mathlib.Omega.{arith}
 use native.Mathlib.Decide.{dec_lt}
 use mathlib.Core.Path.{ap, subst}

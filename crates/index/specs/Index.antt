@@ -1,5 +1,4 @@
--- An index read: well formed (10 in packing, 21 in a lookup), and the cell of a row.
--- Assumes nothing.
+-- An index read (FORMAT 5.1): well formed (5.3; 10 in packing, 21 in a lookup), and the cell of a row.
 use Rattle.std.specs.Prelude.{Bool, true, false, ◌&&◌, ◌||◌, List, [], ◌∷◌, ℕ, zero, suc, ◌+◌, ◌*◌, ◌-◌, length, drop, ◌==◌, nat_le, nat_lt, slice_index, if◌then◌else◌}
 use Rattle.std.proofs.Math.Option.{Option, some, none}
 use Rattle.numbers.specs.Tables.{index2, index5, columns2, columns5, last_column, types_column}
@@ -21,14 +20,14 @@ pub record Index : Type 0 where
   pub offsets : List ℕ
   pub sizes : List ℕ
 
--- "the word 2"; "Version 5 starts with 16-bit 5 and 0 for the word 2"; 0 where the start names neither form
+-- the form that the start names, 2 in 4 bytes, or 5 in 2 bytes and 0 in 2 more; 0 where it names neither
 unfoldable pub version_of : Bool → List ℕ → ℕ
 version_of big s =
     if number_at big 4 s 0 == index2
     then index2
     else if number_at big 2 s 0 == index5 && number_at big 2 s 2 == 0 then index5 else 0
 
--- "C is at most 8, codes are 1 to 8"; "version 5: at most 7 columns, codes 1 and 3 to 8"
+-- eight columns at most, with codes up to 8; form 5 has no column for types, and so one fewer
 unfoldable pub columns_most : ℕ → ℕ
 columns_most version = if version == index5 then columns5 else columns2
 
@@ -52,7 +51,7 @@ slots_good units [] rows = true
 slots_good units (x ∷ xs) [] = true
 slots_good units (x ∷ xs) (r ∷ rs) = if nat_le r units && zero_together r x then slots_good units xs rs else false
 
--- columns C, units U, slots S, then S identities of 8 bytes, S row numbers, C column codes, U times C offsets, U times C sizes
+-- c columns, u units, n slots: behind 16 bytes the identities slot by slot, then the rows' numbers slot by slot, the codes of the columns, all offsets, all sizes
 unfoldable pub layout : Bool → ℕ → ℕ → ℕ → ℕ → List ℕ → Index
 layout big version c u n s =
     record {

@@ -1,5 +1,4 @@
--- Document 01, "Rows of an input that is a package" and "The index written": indexes of both forms, probing, rows judged, an index written.
--- Assumes nothing.
+-- FORMAT 5 and 6.7 to 6.9: indexes of both forms, probing, rows judged, an index written.
 pub mod Columns
 pub mod Index
 pub mod Probing

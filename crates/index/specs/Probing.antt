@@ -1,24 +1,23 @@
--- Probing and placing, and the number of slots.
--- Assumes nothing.
+-- Probing and placing, and the number of slots (FORMAT 5.4 and 5.5).
 use Rattle.std.specs.Prelude.{true, false, List, [], ◌∷◌, ℕ, zero, suc, ◌+◌, ◌*◌, ◌-◌, ◌/◌, ◌%◌, ◌^◌, length, set, ◌==◌, nat_lt, slice_index, if◌then◌else◌}
 use Rattle.std.specs.Int.Bits.{bit_and, bit_or}
 use Rattle.octets.specs.Octets.{zeros}
 use Rattle.index.specs.Index.{Index, least_power}
 
--- "X AND mask (slots - 1)"
+-- where the sequence of an identity starts: at its lowest bits, as many as a slot's number has
 unfoldable pub first_slot : ℕ → ℕ → ℕ
 first_slot x slots = bit_and x (slots - 1)
 
--- "((X >> 32) AND mask) OR 1"
+-- the step of the sequence: as many bits from bit 32 on, made odd
 unfoldable pub stride : ℕ → ℕ → ℕ
 stride x slots = bit_or (bit_and (x / 2 ^ 32) (slots - 1)) 1
 
--- where a search ends: at the identity's slot or as absent, with the number of slots looked at
+-- where a search ends: at the identity's slot or as absent, with its looks (FORMAT 1.3), the number of slots looked at
 pub data Probe : Type 0 where
   found : ℕ → ℕ → Probe
   absent : ℕ → Probe
 
--- "A slot is unused if its row number is 0, tested before the identity; after as many looks as slots the search ends as absent."
+-- an unused slot ends the search, whatever identity stands in it: its row number is looked at first. So does the last look, of which there are as many as slots.
 -- k looks are left, n are done
 unfoldable pub look : ℕ → List ℕ → List ℕ → ℕ → ℕ → ℕ → ℕ → Probe
 look zero rows identities x at by n = absent n
@@ -26,8 +25,8 @@ look (suc k) rows identities x at by n =
     if slice_index rows at == 0
     then absent (n + 1)
     else if slice_index identities at == x
-        then found at (n + 1)
-        else look k rows identities x ((at + by) % length rows) by (n + 1)
+    then found at (n + 1)
+    else look k rows identities x ((at + by) % length rows) by (n + 1)
 
 unfoldable pub search : List ℕ → List ℕ → ℕ → Probe
 search rows identities x =
@@ -37,7 +36,7 @@ search rows identities x =
 unfoldable pub probe : Index → ℕ → Probe
 probe i x = search i.rows i.identities x
 
--- Ticket 3: "the least power of two whose double exceeds 3n, never below 2". The double exceeds 3n where the power exceeds 3n/2 rounded down.
+-- the least power of two S with 2 S > 3 n, and 2 at least. 2 S exceeds 3 n where S exceeds 3 n / 2 rounded down
 unfoldable pub slots_for : ℕ → ℕ
 slots_for n = if nat_lt n 2 then 2 else least_power (3 * n / 2 + 1)
 
@@ -52,7 +51,7 @@ free_from (suc k) rows at by = if slice_index rows at == 0
     then at
     else free_from k rows ((at + by) % length rows) by
 
--- "goes to the first free slot"
+-- an identity takes the first free slot of its sequence
 unfoldable pub place : Slots → ℕ → ℕ → Slots
 place t row x =
     let slots = length t.rows in

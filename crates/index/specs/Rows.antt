@@ -1,6 +1,5 @@
--- "A kept unit's row": where probing ends; no row, or a needed column missing in it (15); a row that names another place or a part outside (16).
--- A compilation unit of version 4 has the row found by its place first.
--- Assumes nothing.
+-- The row of a kept unit (FORMAT 6.7): where probing ends; 15 without a row or a column that is needed, 16 where the row names another place or a bad part.
+-- A compilation unit of version 4 has the row found by its place first (FORMAT 6.8).
 use Rattle.std.specs.Prelude.{Bool, true, false, not, ◌&&◌, ◌||◌, List, [], ◌∷◌, ℕ, zero, suc, ◌+◌, ◌%◌, length, ◌==◌, nat_le, slice_index, if◌then◌else◌}
 use Rattle.std.proofs.Math.Option.{Option, some, none}
 use Rattle.numbers.specs.Sections.{info_code, abbrev_code, str_offsets_code, line_code, loc_code, macinfo_code, macro_code, loclists_code, rnglists_code}
@@ -15,11 +14,11 @@ use Rattle.index.specs.Probing.{Probe, found, absent, probe}
 abbrev pub BySection : Type 0 → Type 0
 BySection A = ℕ → A
 
--- "Each shared section (codes 3 to 10)"
+-- the shared sections (FORMAT 1.1)
 unfoldable pub shared : List ℕ
 shared = abbrev_code ∷ line_code ∷ loc_code ∷ str_offsets_code ∷ macinfo_code ∷ macro_code ∷ loclists_code ∷ rnglists_code ∷ []
 
--- "every shared section not empty in the object"
+-- those that aren't empty in the object, by the lengths of its sections
 unfoldable pub needed_codes : BySection ℕ → List ℕ
 needed_codes lengths = those (λ c. not (lengths c == 0)) shared
 
@@ -36,17 +35,17 @@ unfoldable pub cell_is : (Contribution → Bool) → Option Contribution → Boo
 cell_is f (some c) = f c
 cell_is f none = false
 
--- "its info or types column must name the unit's own place"
+-- the cell of the unit's own section is the unit's place: its offset and its size
 unfoldable pub own_place : ℕ → ℕ → Contribution → Bool
 own_place at size c = c.offset == at && c.size == size
 
--- "a part that ends outside, and widths that don't divide"
+-- a part ends in its section, and one of str_offsets is whole entries from a whole entry on
 unfoldable pub part_good : ℕ → BySection ℕ → ℕ → Contribution → Bool
 part_good width lengths s c =
     nat_le (c.offset + c.size) (lengths s) && (not (s == str_offsets_code) || (c.offset % width == 0 && c.size % width == 0))
 
--- the contributions of a unit of identity x that stands at a place of the section home: "the row's own offset, counted from where the object's section begins,
--- whatever earlier rows held". Where a row was found by that place, no other row names it, so that the search ends at that row or at one that is refused here.
+-- the contributions of a unit of identity x that stands at a place of the section home: the cells of its row as they are, each offset counted from the front of the
+-- object's section. Where a row was found by that place, no other row names it, so that the search ends at that row or at one that is refused here.
 unfoldable pub row_contributions : Index → ℕ → BySection ℕ → ℕ → ℕ → ℕ → ℕ → Check (BySection (Option Contribution))
 row_contributions i width lengths x home at size = do
   row ← row_of i (probe i x)
@@ -61,17 +60,17 @@ unfoldable pub row_numbers : ℕ → List ℕ
 row_numbers zero = []
 row_numbers (suc n) = suc n ∷ row_numbers n
 
--- all rows, with or without a slot, "whose info column names the unit's offset and size"
+-- of all rows, with or without a slot, those whose info cell is the unit's place
 unfoldable pub naming : Index → ℕ → ℕ → List ℕ
 naming i at size = those (λ r. cell_is (own_place at size) (cell_of i r info_code)) (row_numbers i.units)
 
--- "first find the one row"; 15 for "no such row or several"
+-- the only one of them; 15 where there is none or more than one
 unfoldable pub the_one : List ℕ → Check ℕ
 the_one [] = refuse no_row
 the_one (r ∷ []) = pass r
 the_one (r ∷ q ∷ rs) = refuse no_row
 
--- "its abbreviation table is read in that row's abbrev part alone": 15 without that column, 16 where it ends outside; an empty section has no part
+-- the row's part of abbrev, in which alone the unit's abbreviations are read: 15 without that column, 16 where it ends outside; an empty section has no part
 unfoldable pub abbrev_part : Index → ℕ → List ℕ → Check (List ℕ)
 abbrev_part i row [] = pass []
 abbrev_part i row (b ∷ s) =
@@ -80,7 +79,7 @@ abbrev_part i row (b ∷ s) =
       | none ↦ refuse no_row
     ]
 
--- "Without an index for its table, a unit's contribution is its object's whole section."
+-- without an index: of each shared section that isn't empty, all of it (FORMAT 6.6)
 unfoldable pub whole_contributions : BySection ℕ → BySection (Option Contribution)
 whole_contributions lengths s =
     if has (needed_codes lengths) s

@@ -1,5 +1,4 @@
--- The parts of str_offsets that rows name in a package of version 5, and 34: they must tile the section.
--- Assumes nothing.
+-- The parts of str_offsets that rows name in a package of version 5, and 34: they must tile the section (FORMAT 6.9).
 use Rattle.std.specs.Prelude.{Bool, true, false, ◌&&◌, List, [], ◌∷◌, ◌++◌, ℕ, zero, suc, ◌+◌, length, drop, ◌==◌, nat_le, if◌then◌else◌}
 use Rattle.std.proofs.Math.Option.{Option, some, none}
 use Rattle.numbers.specs.Sections.{str_offsets_code}
@@ -47,7 +46,8 @@ tiles_from (suc k) cs at (b ∷ s) =
       | none ↦ refuse bad_parts
     ]
 
--- 34: "such a part ends outside the section, two different parts overlap or some byte is in none". Laws say that nothing else is refused here
+-- 34: the parts don't stand one behind the other from the front of the section to its end. Laws say which faults that makes: a part that ends outside, two that overlap
+-- and differ, a byte in no part; and that nothing else is refused here
 unfoldable pub tiles : List Contribution → List ℕ → Check (List Contribution)
 tiles cs s = do
   ts ← tiles_from (suc (length s)) cs 0 s

@@ -1,5 +1,4 @@
--- "The index written."
--- Assumes nothing.
+-- An index written (FORMAT 5.6).
 use Rattle.std.specs.Prelude.{Bool, true, false, List, [], ◌∷◌, ◌++◌, map, ℕ, length, ◌==◌, if◌then◌else◌}
 use Rattle.std.proofs.Math.Option.{Option, some, none}
 use Rattle.numbers.specs.Tables.{index2, index5}
@@ -15,11 +14,11 @@ pub record Row : Type 0 where
   pub identity : ℕ
   pub cells : BySection (Option Contribution)
 
--- "A column is there if some unit has the contribution"
+-- the columns that stand in the index: those in which some unit of the table has something, be it of size 0
 unfoldable pub present_columns : ℕ → List Row → List Column
 present_columns version rows = those (λ c. any (λ r. is_some (r.cells c.section)) rows) (columns_of version)
 
--- "a unit without it has offset and size 0"
+-- the cell of a unit that has nothing in the column: offset 0 and size 0
 unfoldable pub offset_of : Option Contribution → ℕ
 offset_of (some c) = c.offset
 offset_of none = 0
@@ -48,7 +47,7 @@ index_with big version columns rows slots =
     ++ numbers_of big 4 (grid offset_of columns rows)
     ++ numbers_of big 4 (grid size_of columns rows)
 
--- "No units: no index."
+-- a table without units has no index
 unfoldable pub index_bytes : Bool → ℕ → List Row → List ℕ
 index_bytes big version [] = []
 index_bytes big version (r ∷ rs) =

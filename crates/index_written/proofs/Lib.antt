@@ -1,3 +1,2 @@
 -- Facts on the slots and the length of an index that the program's functions need.
--- Assumes nothing.
 pub mod Laws

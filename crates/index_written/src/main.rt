@@ -1,8 +1,8 @@
 // Reads tables of units and writes the index of each: its words in hexadecimal, a line for each index. The tables are hexadecimal numbers,
 // each with a byte behind it: how many tables; for each 1 where it is big-endian, its version and how many units; for each unit its
 // identity and how many contributions; for each of these its section code, offset and size.
-// Of the stored output, the first 21 indexes are made from document 01; the other 36 stand so in packages that thorin made, but for three of
-// three units each, for which thorin has 4 slots and ticket 3 asks for 8: those were worked out apart from the code.
+// Of the stored output, the first 21 indexes are made by hand from the rules; the other 36 stand so in packages that thorin made, but for three of
+// three units each, for which thorin has 4 slots and FORMAT 5.4 asks for 8: those were worked out apart from the code.
 #![tactic(auto)]
 
 ghost use Rattle.std.specs.Prelude.{◌≡◌, ℕ, ◌<◌, ◌≤◌, ◌^◌, length, get_or, IfOk};

@@ -26,6 +26,7 @@ use Rattle.join.specs.Join.{starts_elf, elf_bundle, as_it_is, as_bundle, file_bu
 use Rattle.join.specs.Held.{file_head, answer_behind}
 use Rattle.join.proofs.Bundles.{Plain, Sized, file_sized, file_plain}
 use Rattle.join.proofs.Memory.{length_behind, lent_length}
+use Rattle.std.specs.Prelude.{if◌then◌else◌}
 
 -- ---- what an answer in numbers says
 -- a check that refuses by none of the two numbers that say something else
@@ -43,7 +44,7 @@ unfolding answered written_of
 code_made (refuse n) o p e = absurd ((p n refl).some e)
 code_made (pass b) o p e = go (leb (length b) o) refl e
   where
-    go : (t : Bool) → leb (length b) o ≡ t → (written_of (elim t [ true ↦ made b | false ↦ short (length b) ])).code ≡ 0 → Fits (pass b) o
+    go : (t : Bool) → leb (length b) o ≡ t → (written_of (if t then made b else short (length b))).code ≡ 0 → Fits (pass b) o
     go true q e = record { bytes = b; is = refl; most = leb-true (length b) o q; whole = rw (answered, q) }
     go false q e = absurd (omega (arith, e))
 

@@ -30,6 +30,7 @@ use Rattle.elf.proofs.Held.{holds, holds32}
 use Rattle.join.specs.Join.{starts_elf, elf_bundle, as_it_is, as_bundle, file_bundle, head_of}
 use Rattle.join.specs.Held.{file_head}
 use Rattle.join.proofs.Canonical.{Canonical, canonical, bundle_long}
+use Rattle.std.specs.Prelude.{if◌then◌else◌}
 
 -- ---- the head of what is written
 pub written_head : (big : Bool) (os : List Sections) → head_of (written big os) ≡ head_word big
@@ -156,7 +157,7 @@ bytes_body : (f : List ℕ) (h : Header) → Bytes f → Bytes (body_of f h)
 unfolding body_of
 bytes_body f h b = go (unstored h)
   where
-    go : (t : Bool) → Bytes (elim t [ true ↦ [] | false ↦ part f h.offset h.size ])
+    go : (t : Bool) → Bytes (if t then [] else part f h.offset h.size)
     go true = bytes_none
     go false = bytes_part f h.offset h.size b
 

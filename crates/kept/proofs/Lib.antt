@@ -1,6 +1,5 @@
 -- Laws of the kept units in lent words.
 -- RegionStores, RegionLending: what a store in one region leaves of the others, and a region that is lent.
--- Assumes nothing.
 pub mod RegionStores
 pub mod RegionsNamed
 pub mod RegionLending

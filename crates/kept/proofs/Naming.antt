@@ -1,5 +1,4 @@
 -- The record that a walk ends at is that of a kept unit, of the table and identity that were sought.
--- Assumes nothing.
 use mathlib.Core.Path.{◌≡◌, refl, sym, ap, ◌∙◌, subst}
 use mathlib.Core.Bool.{Bool, true}
 use mathlib.Core.List.{List, [], ◌∷◌, ◌++◌, map}

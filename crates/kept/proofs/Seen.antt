@@ -1,5 +1,4 @@
 -- Slots of record numbers: none, one more, and that a walk knows the identities that were placed and no others.
--- Assumes nothing.
 use mathlib.Core.Path.{◌≡◌, refl, sym, ap, ◌∙◌}
 use mathlib.Core.Bool.{Bool, true, false}
 use mathlib.Core.List.{List, [], ◌∷◌, ◌++◌, map}

@@ -1,5 +1,4 @@
 -- How many slots of identities seen there are: a power of two, no more than words, and more than units.
--- Assumes nothing.
 use Prim.Native.Nat.{ℕ, ◌+◌, ◌*◌, ◌/◌, ◌<◌, ◌≤◌}
 use native.Mathlib.Omega.{arith}
 use Rattle.index.specs.Held.{PowerOfTwo}

@@ -1,5 +1,4 @@
 -- The cells of a unit by what it contributes, and the bases with one object more.
--- Assumes nothing.
 use Rattle.std.specs.Prelude.{◌≡◌, true, false, List, ℕ, ◌+◌, ◌^◌, ◌<◌, Some, None, ◌==◌, slice_index, if◌then◌else◌}
 use Rattle.std.proofs.Math.Option.{Option, some, none}
 use Rattle.numbers.specs.Sections.{section_codes}

@@ -1,5 +1,4 @@
 -- The columns of a version, those that are there, and a unit's cells by column.
--- Assumes nothing.
 use Rattle.std.specs.Prelude.{◌≡◌, Option, Bool, true, false, ◌||◌, List, [], ◌∷◌, map, ℕ, zero, suc, ◌+◌, ◌*◌, ◌^◌, ◌<◌, length, slice_index, slice_index_or, if◌then◌else◌}
 use Rattle.std.specs.List.{slice_get}
 use Rattle.std.specs.Option.{option_and_then, is_some as there}

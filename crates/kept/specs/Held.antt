@@ -1,5 +1,4 @@
 -- Work holds the kept units of the definition.
--- Assumes nothing.
 use Rattle.std.specs.Prelude.{◌≡◌, Bool, true, false, ◌⊎◌, List, [], ◌∷◌, map, ℕ, ◌+◌, ◌*◌, ◌-◌, ◌<◌, length, ◌==◌, slice_index, if◌then◌else◌}
 use Rattle.index.specs.Written.{Row, offset_of, size_of}
 use Rattle.package.specs.Filing.{Filed}

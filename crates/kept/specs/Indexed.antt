@@ -1,5 +1,4 @@
 -- The index that records and slots state.
--- Assumes nothing.
 use Rattle.std.specs.Prelude.{List, [], ◌∷◌, ◌++◌, map, ℕ, ◌+◌, ◌*◌, length}
 use Rattle.octets.specs.Octets.{numbers_of}
 use Rattle.octets.specs.Lists.{joined, those}

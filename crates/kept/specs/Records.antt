@@ -1,5 +1,4 @@
 -- One record for each kept unit, in words one behind the other.
--- Assumes nothing.
 use Rattle.std.specs.Prelude.{Bool, true, false, List, [], ◌∷◌, map, ℕ, zero, suc, ◌+◌, ◌*◌, ◌-◌, ◌/◌, ◌%◌, ◌^◌, ◌<◌, ◌≤◌, length, ◌==◌, slice_index, if◌then◌else◌}
 use Rattle.numbers.specs.Tables.{columns2}
 use Rattle.octets.specs.Octets.{part}

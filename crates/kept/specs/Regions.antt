@@ -5,7 +5,6 @@
 -- store, the codes stand behind the strings.
 -- The table of the strings has the front of its region, as many words as its room asks for: a bundle has far fewer entries than words, so that all it uses stands
 -- close together.
--- Assumes nothing.
 use Rattle.std.specs.Prelude.{◌≡◌, true, false, ◌⊎◌, List, ℕ, ◌+◌, ◌*◌, ◌≤◌, length, take, ◌==◌, if◌then◌else◌}
 use Rattle.numbers.specs.Limits.{string_words}
 use Rattle.octets.specs.Octets.{part}

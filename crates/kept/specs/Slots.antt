@@ -1,5 +1,4 @@
 -- Slots of record numbers, and the definition's slots of row numbers.
--- Assumes nothing.
 use Rattle.std.specs.Prelude.{◌≡◌, true, List, [], ◌∷◌, map, ℕ, ◌+◌, ◌*◌, ◌/◌, ◌<◌, ◌≤◌, length, Result, Ok, Err, slice_index}
 use Rattle.octets.specs.Octets.{part, placed}
 use Rattle.octets.specs.Lists.{distinct}

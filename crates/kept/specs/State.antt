@@ -1,5 +1,4 @@
 -- Work and what is by value hold the units that are filed. Nothing here need be believed.
--- Assumes nothing.
 use Rattle.std.specs.Prelude.{◌≡◌, Bool, List, [], ◌∷◌, ℕ, ◌+◌, ◌*◌, ◌^◌, ◌<◌, ◌≤◌, length, slice_index}
 use Rattle.numbers.specs.Limits.{bundle_limit, work_for_word, least_unit_bytes}
 use Rattle.numbers.specs.Sections.{section_codes}

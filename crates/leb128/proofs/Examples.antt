@@ -1,5 +1,4 @@
 -- LEB128 numbers at their limits, as the checker computes them.
--- Assumes nothing.
 use mathlib.Core.Path.{◌≡◌, refl}
 use mathlib.Core.List.{List, [], ◌∷◌, ◌++◌}
 use Prim.Native.Nat.{ℕ}

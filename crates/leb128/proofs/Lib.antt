@@ -1,5 +1,4 @@
 -- Laws of LEB128 numbers, and the proofs of their readers.
--- Assumes nothing.
 pub mod Taken
 pub mod Local
 pub mod Readers

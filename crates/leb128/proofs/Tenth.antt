@@ -1,5 +1,4 @@
 -- The answers of the readers, by what three or nine bytes say and what a tenth adds.
--- Assumes nothing.
 use mathlib.Core.Path.{◌≡◌, refl, sym, ◌∙◌}
 use mathlib.Core.Bool.{true, ◌||◌}
 use mathlib.Core.List.{List, [], ◌∷◌}

@@ -1,5 +1,4 @@
 -- What so many bytes say, which only ties code to `groups`: nothing here need be believed.
--- Assumes nothing.
 use Rattle.std.specs.Prelude.{true, false, List, [], ◌∷◌, ℕ, zero, suc, ◌+◌, ◌*◌, ◌-◌, nat_lt, if◌then◌else◌}
 use Rattle.leb128.specs.declared.Groups.{Groups}
 use Rattle.leb128.specs.declared.Groups.TheVariants.{Ended, Open, Cut}

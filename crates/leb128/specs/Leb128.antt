@@ -1,6 +1,5 @@
--- Document 01, "Units and their identities": a tag, name or form takes at most 3 bytes and is at most 65,535; any other number takes at most
--- 10 bytes and 64 bits, signed ones for a signed form. A padded number counts by its value. A reader gives the value and the bytes taken.
--- Assumes nothing.
+-- LEB128 numbers with their limits (FORMAT 3.8; DWARF 5, 7.6): tags, names and forms keep within 3 bytes and 65,535, all others within
+-- 10 bytes and 64 bits; a form that is signed has signed ones. A padded number counts by its value. A reader gives the value and the bytes taken.
 use Rattle.std.specs.Prelude.{true, false, ◌||◌, List, [], ◌∷◌, ℕ, zero, suc, ◌+◌, ◌*◌, ◌-◌, ◌^◌, nat_le, nat_lt, if◌then◌else◌}
 use Rattle.numbers.specs.Refusals.{no_identity}
 use Rattle.octets.specs.Checked.{Check, pass, refuse, ◌>>=◌, require}

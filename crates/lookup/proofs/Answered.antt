@@ -1,5 +1,4 @@
 -- Both lookups: which refusal comes first, and what a search in a table answers.
--- Assumes nothing.
 use mathlib.Core.Path.{◌≡◌, refl, ap, ◌∙◌}
 use mathlib.Core.Bool.{true, false, ◌&&◌}
 use mathlib.Core.List.{List}

@@ -1,5 +1,4 @@
 -- What is asked, by what the code holds: version, table, index and place.
--- Assumes nothing.
 use mathlib.Core.Path.{◌≡◌, refl, sym}
 use mathlib.Core.Bool.{Bool, true, false}
 use mathlib.Core.List.{List}

@@ -1,5 +1,4 @@
 -- What holds of every answer: a part lies in the package, and no more slots are looked at than there are.
--- Assumes nothing.
 use mathlib.Core.Path.{◌≡◌, refl, ap, ◌∙◌}
 use mathlib.Core.List.{List}
 use mathlib.Core.Logic.{◌⊎◌, inl, inr}

@@ -1,5 +1,4 @@
 -- Packages looked up in, as the checker computes it: what is found, what is absent, and one question for each refusal.
--- Assumes nothing.
 use mathlib.Core.Path.{◌≡◌, refl}
 use mathlib.Core.Bool.{false}
 use mathlib.Core.List.{List, [], ◌∷◌}

@@ -1,5 +1,4 @@
 -- Laws of the lookups: each case of each definition, and what is known of an answer.
--- Assumes nothing.
 pub mod Packages
 pub mod Tables
 pub mod Places

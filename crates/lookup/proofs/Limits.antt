@@ -1,5 +1,4 @@
 -- A package's length at its limit, which is too long to be computed: 21.
--- Assumes nothing.
 use mathlib.Core.Path.{◌≡◌, ap}
 use mathlib.Core.List.{List}
 use Prim.Native.Nat.{ℕ}

@@ -1,5 +1,4 @@
 -- Both lookups, from what the code holds to what the definitions answer: 21 to 23, and the search.
--- Assumes nothing.
 use mathlib.Core.Path.{◌≡◌, refl, ap, sym, ◌∙◌}
 use mathlib.Core.Bool.{Bool, true, false, ◌||◌}
 use mathlib.Core.List.{List}

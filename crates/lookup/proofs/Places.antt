@@ -1,5 +1,4 @@
 -- 24 to 26: the places that a row and an entry name.
--- Assumes nothing.
 use mathlib.Core.Path.{◌≡◌, ◌∙◌}
 use mathlib.Core.List.{List}
 use mathlib.Core.Option.{some, none}
@@ -16,7 +15,7 @@ use Rattle.lookup.specs.Lookup.{Package, Place, place_in, cell_place, part_place
 
 -- ---- 24
 module _ (k : Package) (i : Index) (row code : ℕ) where
-  -- "a missing column an empty part", whose place is free: it is 0
+  -- without the column the part is empty, at 0
   pub column_missing : cell_of i row code ≡ none → part_place k i row code ≡ pass (record { start = 0; size = 0 })
   unfolding part_place cell_place
   column_missing e = rw (part_place, e)

@@ -1,5 +1,4 @@
 -- A search in a package that was opened, by what the code holds of it.
--- Assumes nothing.
 use mathlib.Core.Path.{◌≡◌, refl, ap, sym, ◌∙◌}
 use mathlib.Core.Bool.{Bool}
 use mathlib.Core.List.{List}

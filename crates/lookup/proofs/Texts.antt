@@ -1,5 +1,4 @@
 -- 25 and 26, by what the code holds: the entry of a part of str_offsets, and the string that it names.
--- Assumes nothing.
 use mathlib.Core.Path.{◌≡◌, refl, ap, sym, ◌∙◌}
 use mathlib.Core.Bool.{true}
 use mathlib.Core.List.{List}

@@ -1,5 +1,4 @@
 -- From a check of which a function was taken back to the check.
--- Assumes nothing.
 use mathlib.Core.Path.{◌≡◌, refl, sym}
 use Prim.Native.Nat.{ℕ}
 use Rattle.octets.specs.Checked.{Check, pass, refuse, mapped}

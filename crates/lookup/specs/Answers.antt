@@ -1,5 +1,4 @@
 -- What the code holds of a package, which need not be believed; and at the end the answers as callers are told them.
--- Assumes nothing.
 use Rattle.std.specs.Prelude.{◌≡◌, Bool, true, false, ◌&&◌, ◌||◌, List, [], ℕ, ◌+◌, ◌≤◌, ◌<◌, nat_le, length, drop, Some, None, Result, Ok, Err, ◌==◌, if◌then◌else◌}
 use Rattle.std.specs.Prelude as code
 use Rattle.std.specs.List.{list_all}

@@ -1,4 +1,3 @@
--- Document 01, "Looking up": both lookups with their refusals (21 to 26) and looks.
--- Assumes nothing.
+-- FORMAT 7: both lookups with their refusals (21 to 26) and looks.
 pub mod Lookup
 pub mod Answers

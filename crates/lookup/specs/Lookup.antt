@@ -1,5 +1,4 @@
--- Looking up a part or a string in a package, which may be any bytes.
--- Assumes nothing.
+-- Looking up a part or a string in a package, which may be any bytes (FORMAT 7.1 to 7.3).
 use Rattle.std.specs.Prelude.{Bool, true, false, ◌&&◌, ◌||◌, List, [], ◌∷◌, ℕ, ◌+◌, ◌*◌, ◌-◌, ◌/◌, length, ◌==◌, nat_le, nat_lt, slice_index, if◌then◌else◌}
 use Rattle.std.proofs.Math.Option.{Option, some, none}
 use Rattle.numbers.specs.Tables.{compilation_table, type_table, index2, index5}
@@ -34,12 +33,12 @@ codes =
     info_code ∷ types_code ∷ abbrev_code ∷ line_code ∷ loc_code ∷ str_offsets_code ∷ macinfo_code ∷ macro_code ∷ loclists_code ∷ rnglists_code ∷ str_code
     ∷ cu_index_code ∷ tu_index_code ∷ []
 
--- an index that is there, "ill-formed by the form that its start names"
+-- an index that is there is judged by the form that its own start says
 unfoldable pub package_index : Bool → List ℕ → List Part → ℕ → Check (Option Index)
 package_index big p ps c =
     elim (first_part ps c) [ some s ↦ renumbered bad_package (index_of big (body p ps c)) >>= λ i. pass (some i) | none ↦ pass none ]
 
--- 21: an object word that 4 refuses, a repeated section, or an index ill-formed
+-- 21: version, width or address size of the object word, two sections of one code, or an index that isn't well formed
 unfoldable pub object_judged : Bool → List ℕ → Object → Check Package
 object_judged big p o = do
   let e = encoding_of big o.word
@@ -49,7 +48,7 @@ object_judged big p o = do
   tu ← package_index big p o.parts tu_index_code
   pass (record { encoding = e; parts = o.parts; cu_index = cu; tu_index = tu })
 
--- 21: more than one object
+-- 21: two objects or more
 unfoldable pub objects_judged : Bool → List ℕ → List Object → Check Package
 objects_judged big p [] = pass (record { encoding = encoding_of big 0; parts = []; cu_index = none; tu_index = none })
 objects_judged big p (o ∷ []) = object_judged big p o
@@ -82,14 +81,14 @@ pub record Place : Type 0 where
   pub start : ℕ
   pub size : ℕ
 
--- 24: a part ends outside its section, or the column's section is missing in the package
+-- 24: the section is missing in the package, or too short for the part
 unfoldable pub place_in : Option Part → Contribution → Check Place
 place_in none c = refuse part_outside
 place_in (some s) c = do
   _ ← require (nat_le (c.offset + c.size) s.size) part_outside
   pass (record { start = s.start + c.offset; size = c.size })
 
--- "a missing column an empty part"
+-- without the column the part is empty, and its place is told as 0
 unfoldable pub cell_place : List Part → ℕ → Option Contribution → Check Place
 cell_place ps code none = pass (record { start = 0; size = 0 })
 cell_place ps code (some c) = place_in (first_part ps code) c
@@ -102,12 +101,12 @@ unfoldable pub at_row : Index → Probe → (ℕ → Check Place) → Check Foun
 at_row i (nowhere looks) answer = pass (absent looks)
 at_row i (at slot looks) answer = answer (slice_index i.rows slot) >>= λ p. pass (part p.start p.size looks)
 
--- "A missing index gives absent after 0 looks"
+-- without an index the identity is absent after 0 looks
 unfoldable pub in_table : Option Index → ℕ → (Index → ℕ → Check Place) → Check Found
 in_table none identity answer = pass (absent 0)
 in_table (some i) identity answer = at_row i (probe i identity) (answer i)
 
--- "A refusal returns an empty part and 0 looks."
+-- a refusal tells its number alone
 unfoldable pub answered : Check Found → Found
 answered (pass f) = f
 answered (refuse n) = refused n
@@ -123,7 +122,7 @@ unfoldable pub looked_up : List ℕ → ℕ → ℕ → ℕ → ℕ → Found
 looked_up p version table identity code = answered (part_judged p version table identity code)
 
 -- ---- strings
--- "in version 5 entries start behind the header's 8 or 16 bytes, which are not judged"
+-- where entry 0 stands in its part: in form 5 behind a header of two widths, whose bytes aren't looked at
 unfoldable pub entries_start : ℕ → Encoding → ℕ
 entries_start version e = if version == index5 then e.width + e.width else 0
 

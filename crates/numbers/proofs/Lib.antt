@@ -1,4 +1,3 @@
 -- Laws on the table of section names.
--- Assumes nothing.
 pub mod NameTable
 pub mod Examples

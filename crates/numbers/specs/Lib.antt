@@ -1,5 +1,4 @@
--- The numbers that the papers give to sections, tables, versions, limits and refusals, each with its name, in one place.
--- Assumes nothing.
+-- The numbers of sections, tables, versions, limits and refusals, each with its name, in one place (FORMAT 2.2, 13).
 pub mod Sections
 pub mod Tables
 pub mod Limits

@@ -1,5 +1,4 @@
 -- Limits, in bytes where nothing else is said.
--- Assumes nothing.
 use Rattle.std.specs.Prelude.{ℕ}
 
 -- The longest bundle that is packed (1), and its words.

@@ -1,6 +1,5 @@
--- The names of the sections in an object file, in ASCII bytes: `.debug_`, document 01's word and `.dwo`, but for the two indexes, which end in their word.
+-- The names of the sections in an object file, in ASCII bytes: `.debug_`, the section's word and `.dwo`, but for the two indexes, which end in their word (FORMAT 2.2).
 -- One table, which the ELF files read and written and the printed tables use.
--- Assumes nothing.
 use Rattle.std.specs.Prelude.{List, [], ◌∷◌, ◌++◌, map, ℕ, slice_index_or}
 
 -- the words of codes 1 to 11

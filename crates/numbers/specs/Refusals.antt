@@ -1,5 +1,4 @@
--- The numbers by which calls refuse, each with what it says.
--- Assumes nothing.
+-- The numbers by which calls refuse, each with what it says (FORMAT 13).
 use Rattle.std.specs.Prelude.{ℕ}
 
 -- ---- packing

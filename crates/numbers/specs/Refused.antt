@@ -1,5 +1,4 @@
 -- The refusals of the code, by their numbers. What a call answers is a value or a refusal, and stands for a check.
--- Assumes nothing.
 use Rattle.std.specs.Prelude.{ℕ, Result, Ok, Err}
 use Rattle.octets.specs.Checked.{Check, pass, refuse}
 use Rattle.numbers.specs.Refusals as number

@@ -1,5 +1,4 @@
--- Section codes.
--- Assumes nothing.
+-- Section codes (FORMAT 2.2).
 use Rattle.std.specs.Prelude.{ℕ}
 
 abbrev pub info_code : ℕ

@@ -1,5 +1,4 @@
 -- The two tables of units, the versions of DWARF and of an index, the columns of an index, and the types of a version 5 unit.
--- Assumes nothing.
 use Rattle.std.specs.Prelude.{ℕ}
 
 abbrev pub compilation_table : ℕ

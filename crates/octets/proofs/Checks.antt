@@ -1,5 +1,4 @@
 -- Laws of checks in a row, and of `◌&&◌` and `◌||◌`.
--- Assumes nothing.
 use mathlib.Core.Path.{◌≡◌, refl, sym, ap}
 use mathlib.Core.Logic.{◌⊎◌, inl, inr}
 use mathlib.Core.Bool.{Bool, true, false, ◌&&◌, ◌||◌}

@@ -1,5 +1,4 @@
 -- Tests over a list by its elements, turns of a loop that tests them one by one, and numbers that stand in a list.
--- Assumes nothing.
 use mathlib.Core.Path.{◌≡◌, refl, sym, ap, ◌∙◌}
 use mathlib.Core.Logic.{⊎_elim}
 use mathlib.Core.Bool.{Bool, true, false, ◌||◌}

@@ -1,5 +1,4 @@
 -- Numbers of fixed width: the bytes that the library makes of them, and what it reads in bytes.
--- Assumes nothing.
 use mathlib.Core.Path.{◌≡◌, refl, sym, ap, ap₂, ◌∙◌}
 use mathlib.Core.Bool.{Bool, true, false}
 use mathlib.Core.List.{List, [], ◌∷◌, ◌++◌}

@@ -1,5 +1,4 @@
 -- Laws of `joined` and `sum`, and of lists that a function gives for each element.
--- Assumes nothing.
 use mathlib.Core.Path.{◌≡◌, refl, sym, ap, ◌∙◌}
 use mathlib.Core.List.{List, [], ◌∷◌, ◌++◌, map, append-nil, append_assoc}
 pub use mathlib.Core.List.{map-append}

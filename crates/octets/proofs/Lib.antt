@@ -1,5 +1,4 @@
 -- Laws of the definitions of this crate, which every later proof cites.
--- Assumes nothing.
 pub mod Checks
 pub mod Refusals
 pub mod Options

@@ -1,5 +1,4 @@
 -- Laws of one number in bytes, for every width and both byte orders: its bound, its place, what is written is read back.
--- Assumes nothing.
 use mathlib.Core.Path.{◌≡◌, sym, refl, ap, ◌∙◌}
 use mathlib.Core.Bool.{Bool, true, false}
 use mathlib.Core.List.{List, [], ◌∷◌, ◌++◌, append-nil, append_assoc}

@@ -1,5 +1,4 @@
 -- What is there is one thing, and nothing is not there.
--- Assumes nothing.
 use mathlib.Core.Path.{◌≡◌}
 use mathlib.Core.Option.{some, none}
 use Prim.Native.Nat.{ℕ}

@@ -1,5 +1,4 @@
 -- Parts of a list in which something is placed, and what is placed in a part that was lent.
--- Assumes nothing.
 use mathlib.Core.Path.{◌≡◌, refl, sym, ap, ◌∙◌}
 use mathlib.Core.Bool.{Bool}
 use mathlib.Core.List.{List, ◌++◌, append_assoc}

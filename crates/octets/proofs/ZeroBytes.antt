@@ -1,5 +1,4 @@
 -- The first zero byte: marks of the zero bytes of a number, made by operations on its bits, and the lowest of them.
--- Assumes nothing.
 use mathlib.Core.Path.{◌≡◌, refl, sym, ap, ap₂, ◌∙◌}
 use mathlib.Core.Logic.{⊎_elim}
 use mathlib.Core.Bool.{Bool, true, false}

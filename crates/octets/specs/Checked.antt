@@ -1,5 +1,4 @@
--- A check gives a value or a refusal's number. Checks in a row stop at the first refusal, so the order of document 01's list is the order of the lines.
--- Assumes nothing.
+-- A check gives a value or a refusal's number. Checks in a row stop at the first refusal, so the order of the list of refusals (FORMAT 13) is the order of the lines.
 use Rattle.std.specs.Prelude.{Bool, true, false, ◌≡◌, ℕ}
 
 pub data Check (A : Type 0) : Type 0 where

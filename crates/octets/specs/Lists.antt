@@ -1,5 +1,4 @@
 -- Lists of anything: joined, filtered, tested, summed.
--- Assumes nothing.
 use Rattle.std.specs.Prelude.{Bool, true, false, not, Option, Some, None, List, [], ◌∷◌, ◌++◌, ◌≡◌, ℕ, ◌+◌, ◌<◌, ◌≤◌, length, ◌==◌, nat_eq, slice_index, if◌then◌else◌}
 
 unfoldable pub joined : List (List ℕ) → List ℕ

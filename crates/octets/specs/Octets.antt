@@ -1,5 +1,4 @@
 -- Bytes are numbers below 256, and a section is a list of them. A number takes w bytes in either byte order.
--- Assumes nothing.
 use Rattle.std.specs.Prelude.{Bool, true, false, List, [], ◌∷◌, ◌++◌, ℕ, zero, suc, ◌+◌, ◌*◌, ◌/◌, ◌%◌, length, take, drop, replicate, ◌==◌, if◌then◌else◌}
 
 -- the n bytes of s from a place on

@@ -1,5 +1,4 @@
 -- What a definition finds or not, as the code answers it.
--- Assumes nothing.
 use Rattle.std.specs.Prelude.{Option, Some, None}
 use Rattle.std.proofs.Math.Option as math
 

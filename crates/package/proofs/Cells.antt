@@ -1,5 +1,4 @@
 -- The cells of the rows: each names a part of a section that is there, for which the index has a column; so both indexes can be written.
--- Assumes nothing.
 use mathlib.Core.Path.{◌≡◌, refl, sym, ap, ◌∙◌, subst}
 use mathlib.Core.Logic.{◌⊎◌, inl, inr, ⊎_elim}
 use mathlib.Core.Bool.{true, false}

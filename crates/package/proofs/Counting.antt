@@ -1,5 +1,4 @@
 -- Repeats and namesakes: one unit more, and both together with the kept units are all units.
--- Assumes nothing.
 use mathlib.Core.Path.{◌≡◌, refl, ap, ◌∙◌}
 use mathlib.Core.Logic.{⊎_elim}
 use mathlib.Core.Bool.{Bool, true, false}
@@ -57,7 +56,7 @@ unfolding count_from keep_all
 from_all ks [] = omega arith
 from_all ks (u ∷ us) = omega (arith, from_all (keep ks u) us, one_and_kept ks u)
 
--- "repeats and namesakes together are the units handed in less the units kept"
+-- repeats and namesakes together are all units but the kept ones
 pub count_all : (us : List Filed) → count_of repeat us + count_of namesake us + length (kept us) ≡ length us
 unfolding count_of kept
 count_all us = omega (arith, from_all [] us)

@@ -1,5 +1,4 @@
 -- Bundles packed, as the checker computes them: one for each refusal, and rows that share parts. What can't be computed, the lengths at a limit, is in Limits.
--- Assumes nothing.
 use mathlib.Core.Path.{◌≡◌, refl}
 use mathlib.Core.Bool.{false}
 use mathlib.Core.List.{List, [], ◌∷◌, ◌++◌}

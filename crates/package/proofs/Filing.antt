@@ -1,5 +1,4 @@
 -- What is known of each unit that was filed, and where its object's sections lie.
--- Assumes nothing.
 use mathlib.Core.Path.{◌≡◌, refl, sym, ap, ◌∙◌, subst}
 use mathlib.Core.Logic.{◌⊎◌, ◌↔◌, inl, inr, ⊎_elim}
 use mathlib.Core.Bool.{Bool, true, false, not}

@@ -1,5 +1,4 @@
 -- The pieces of a str_offsets that passed are those that their headers state, so that code finds them again without an index.
--- Assumes nothing.
 use mathlib.Core.Path.{◌≡◌, refl, sym, ap, ◌∙◌, subst}
 use mathlib.Core.Bool.{true}
 use mathlib.Core.List.{List, [], ◌∷◌, ◌++◌, append-nil}

@@ -1,5 +1,4 @@
 -- The lengths at a limit, which are too long to be computed: 1 and 19.
--- Assumes nothing.
 use mathlib.Core.Path.{◌≡◌, ap, ◌∙◌}
 use mathlib.Core.Bool.{true}
 use mathlib.Core.List.{List, [], ◌∷◌}

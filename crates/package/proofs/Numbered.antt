@@ -1,5 +1,4 @@
 -- Refusals of a unit have numbers from 1 to 16: not 0, which code keeps for what passes, and not 17.
--- Assumes nothing.
 use mathlib.Core.Path.{◌≡◌, refl}
 use mathlib.Core.Bool.{◌||◌}
 use mathlib.Core.List.{List, [], ◌∷◌, ◌++◌}

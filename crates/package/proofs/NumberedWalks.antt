@@ -1,5 +1,4 @@
 -- Refusals of the walks over units and sections have numbers from 1 to 16; and the walk over sections, section by section.
--- Assumes nothing.
 use mathlib.Core.Path.{◌≡◌, refl}
 use mathlib.Core.List.{List, [], ◌∷◌, ◌++◌}
 use Prim.Native.Nat.{ℕ, zero, suc, ◌+◌}

@@ -1,5 +1,4 @@
 -- The walk over objects: what is filed, and the rest. Refusals of an object, and of all of them, have numbers from 1 to 16, or 34.
--- Assumes nothing.
 use mathlib.Core.Path.{◌≡◌, refl, sym, ap, ap₂, ◌∙◌}
 use mathlib.Core.Logic.{◌⊎◌, inl, inr, ⊎_elim}
 use mathlib.Core.Bool.{Bool, true, false, ◌&&◌}

@@ -1,5 +1,4 @@
 -- What is known of an object's str_offsets, piece by piece: the pieces are the section, each is judged alone, and a part that a row names is one of them.
--- Assumes nothing.
 use mathlib.Core.Path.{◌≡◌, refl, sym, ap, ap₂, ◌∙◌, subst}
 use mathlib.Core.Logic.{⊎_elim}
 use mathlib.Core.Bool.{true, false}

@@ -1,5 +1,4 @@
 -- Packing refuses by 1 to 16, by 19 and by 34, and by 18 where the output is too short.
--- Assumes nothing.
 use mathlib.Core.Path.{◌≡◌, sym, ap}
 use mathlib.Core.Logic.{◌⊎◌, inl, inr, ⊎_elim}
 use mathlib.Core.Bool.{true, false}

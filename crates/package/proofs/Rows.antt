@@ -1,5 +1,4 @@
 -- The rows of the indexes: which units they are of, and where each one's own bytes and contributions lie in the package's sections.
--- Assumes nothing.
 use mathlib.Core.Path.{◌≡◌, refl, sym, ap, ◌∙◌, subst}
 use mathlib.Core.Logic.{⊎_elim}
 use mathlib.Core.Bool.{Bool, true, false}

@@ -1,5 +1,4 @@
 -- Both indexes of the package: their rows can be written, and what is written is read back, finds them and misses others.
--- Assumes nothing.
 use mathlib.Core.Path.{◌≡◌, refl, sym, ap, ◌∙◌, subst}
 use mathlib.Core.Logic.{◌⊎◌, ⊎_elim}
 use mathlib.Core.Bool.{Bool, true, false}

@@ -1,5 +1,4 @@
 -- Bundles of two objects packed, as the checker computes them: what is joined in which order, what the later object's rows name, and which refusal comes first.
--- Assumes nothing.
 use mathlib.Core.Path.{◌≡◌, refl}
 use mathlib.Core.Bool.{false}
 use mathlib.Core.List.{List, [], ◌∷◌, ◌++◌, map}

@@ -1,5 +1,4 @@
 -- The strings of a unit: what entry j of its str_offsets part named as handed in, the number in the package's part names in the package's str.
--- Assumes nothing.
 use mathlib.Core.Path.{◌≡◌, refl, sym, ap, ◌∙◌, subst}
 use mathlib.Core.Logic.{◌⊎◌, inl, inr, ⊎_elim}
 use mathlib.Core.Bool.{true, false, ◌&&◌, ◌||◌}

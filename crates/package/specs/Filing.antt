@@ -1,5 +1,4 @@
--- Unit by unit: each is read (11 to 13) and filed (14 to 16) before the next one, object by object.
--- Assumes nothing.
+-- Unit by unit: each is read (11 to 13) and filed (14 to 16) before the next one, object by object (FORMAT 6.5 to 6.8).
 use Rattle.std.specs.Prelude.{Bool, true, false, not, ◌&&◌, ◌||◌, List, [], ◌∷◌, ◌++◌, ℕ, zero, suc, ◌+◌, length, take, drop, ◌==◌, if◌then◌else◌}
 use Rattle.std.proofs.Math.Option.{Option, some, none}
 use Rattle.numbers.specs.Tables.{compilation_table}
@@ -39,7 +38,7 @@ index_for i table = if table == compilation_table then i.cu_index else i.tu_inde
 unfoldable pub lengths : Input → BySection ℕ
 lengths i c = length (i.bytes c)
 
--- Ticket 1: "For a compilation unit of a version 4 object with cu_index, first find the one row"; 15 and 16 here come before 12
+-- a compilation unit of a version 4 object with cu_index has its row found by its place, before its identity can be read (FORMAT 6.8); 15 and 16 here come before 12
 unfoldable pub index_by_place : Input → ℕ → Option Index
 index_by_place i home = if not (is_five i.encoding) && home == info_code then i.cu_index else none
 
@@ -51,7 +50,7 @@ abbreviations_for i home at size =
       | none ↦ pass (i.bytes abbrev_code)
     ]
 
--- Ticket 5: a version 5 object with an index
+-- a version 5 object with an index
 unfoldable pub is_package : Input → Bool
 is_package i = is_five i.encoding && (is_some i.cu_index || is_some i.tu_index)
 
@@ -63,7 +62,7 @@ contributions_of i home at u =
       | none ↦ require (not (is_package i)) no_row >>= λ _. pass (whole_contributions (lengths i))
     ]
 
--- 14: a compilation identity already seen; "A type signature already kept is skipped, and its unit adds nothing"
+-- a unit whose table has its identity already: 14 for a compilation unit; a type unit is skipped, without a row or a contribution
 unfoldable pub skipped : ℕ → Check (BySection (Option Contribution))
 skipped table = if table == compilation_table then refuse identity_seen else pass (λ c. none)
 
@@ -72,8 +71,8 @@ unfoldable pub unit_at : Input → BySection ℕ → List Filed → List Filed �
 unit_at i bases earlier here home at s = do
   u ← unit_by i.encoding home (abbreviations_for i home at) s
   contributions ← (if any (is_under u.table u.identity) (earlier ++ here)
-    then skipped u.table
-    else contributions_of i home at u)
+      then skipped u.table
+      else contributions_of i home at u)
   pass
       (record {
         table = u.table;
@@ -93,7 +92,7 @@ units_from (suc k) i bases earlier here home at (b ∷ s) =
     unit_at i bases earlier here home at (b ∷ s)
     >>= λ u. units_from k i bases earlier (here ++ (u ∷ [])) home (at + length u.bytes) (drop (length u.bytes) (b ∷ s))
 
--- "Units are walked in section order"
+-- the sections of units, as they stand in the bundle
 unfoldable pub units_in : Input → BySection ℕ → List Filed → List Filed → List Section → Check (List Filed)
 units_in i bases earlier here [] = pass here
 units_in i bases earlier here (s ∷ ss) =
@@ -124,7 +123,7 @@ unfoldable pub filing_of : List ℕ → Bundle → Check Filing
 filing_of b k = filing_from b k.big (first_word k.objects) (λ c. 0) [] k.objects
 
 -- ---- the kept units
--- "First is first in the bundle: the kept one."
+-- "kept" and "skipped" of FORMAT 1.2: a unit is kept if none before it has its table and identity
 unfoldable pub keep : List Filed → Filed → List Filed
 keep ks u = if any (is_under u.table u.identity) ks then ks else ks ++ (u ∷ [])
 
@@ -141,7 +140,7 @@ first_under t x [] = none
 first_under t x (u ∷ us) = if is_under t x u then some u else first_under t x us
 
 -- ---- repeats and namesakes
--- Ticket 11: "Call it a repeat if all unit bytes agree with the kept one's and a namesake otherwise."
+-- of FORMAT 1.2: a skipped unit is a repeat where its bytes are the kept one's, else a namesake
 pub data Kind : Type 0 where
   repeat : Kind
   namesake : Kind

@@ -1,5 +1,4 @@
--- One object, judged up to its units: 4 to 10 in document 01's order; in version 5 with an index 10 and 34 come before 8 and 9.
--- Assumes nothing.
+-- One object, judged up to its units: 4 to 10, in this order; in version 5 with an index 10 and 34 come before 8 and 9 (FORMAT 6.2 to 6.4).
 use Rattle.std.specs.Prelude.{Bool, true, false, not, ◌&&◌, ◌||◌, List, [], ◌∷◌, ◌++◌, map, ℕ, ◌==◌, nat_le, if◌then◌else◌}
 use Rattle.std.proofs.Math.Option.{Option, some, none}
 use Rattle.numbers.specs.Tables.{dwarf5, index2, index5}
@@ -46,17 +45,17 @@ only_once =
     abbrev_code ∷ line_code ∷ loc_code ∷ str_offsets_code ∷ macinfo_code ∷ macro_code ∷ loclists_code ∷ rnglists_code ∷ str_code ∷ cu_index_code
     ∷ tu_index_code ∷ []
 
--- an index that allows one info only: "6 covers a second version 5 info beside either index"
+-- an index that allows one info only: cu_index, and in version 5 either
 unfoldable pub beside_info : Encoding → List Part → Bool
 beside_info e ps = present ps cu_index_code || (e.version == dwarf5 && present ps tu_index_code)
 
--- 6: also a second one of a code other than info and types, or a second info beside cu_index or types beside tu_index
+-- 6: also two sections of one code, but for info and types; and two of those where their index is there
 unfoldable pub edition_good : Encoding → List Part → Bool
 edition_good e ps =
     all (λ c. not (present ps c)) (wrong_codes e) && all (λ c. not (repeated ps c)) only_once
     && not (beside_info e ps && repeated ps info_code) && not (present ps tu_index_code && repeated ps types_code)
 
--- 7: no abbrev, no info, or str_offsets without str
+-- 7: abbrev or info is missing, or str beside str_offsets
 unfoldable pub complete : List Part → Bool
 complete ps = present ps abbrev_code && present ps info_code && (not (present ps str_offsets_code) || present ps str_code)
 
@@ -77,7 +76,7 @@ whole_pieces e ps bytes = if present ps str_offsets_code
     then (piece_of e (bytes str_code) (bytes str_offsets_code) >>= λ p. pass (p ∷ []))
     else pass []
 
--- version 5 with an index: the parts that rows of either index name, "8 and 9 then follow 34, part by part"; an absent section counts as empty
+-- version 5 with an index: 34 of the parts that rows of either index name, then 8 and 9 of each part in order of offset (FORMAT 6.9); an absent section counts as empty
 unfoldable pub is_packed : Encoding → List Part → Bool
 is_packed e ps = e.version == dwarf5 && (present ps cu_index_code || present ps tu_index_code)
 

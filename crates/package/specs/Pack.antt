@@ -1,5 +1,4 @@
--- The package, and the answer: one of the three kinds of `answers/specs/Answers.antt`.
--- Assumes nothing.
+-- The package (FORMAT 6.10), and the answer: one of the three kinds of `answers/specs/Answers.antt`.
 use Rattle.std.specs.Prelude.{Bool, true, false, List, [], ◌∷◌, ◌++◌, map, ℕ, ◌+◌, ◌*◌, ◌/◌, ◌%◌, length, ◌==◌, nat_le, if◌then◌else◌}
 use Rattle.std.proofs.Math.Option.{Option, some, none}
 use Rattle.numbers.specs.Tables.{compilation_table, type_table}
@@ -50,7 +49,7 @@ rows_of ks table = map (λ e. e.row) (those (λ e. e.table == table) (entries_fr
 unfoldable pub unit_bytes : List Filed → ℕ → List ℕ
 unit_bytes ks home = joined (map (λ u. u.bytes) (those (λ u. u.home == home) ks))
 
--- "Each shared section (codes 3 to 10) is all objects' bytes joined in order, str_offsets remapped." A section of several pieces is remapped piece by piece.
+-- a shared section: that of each object, one behind the other; in str_offsets with new values, piece by piece where it has several
 unfoldable pub shared_bytes : List (List ℕ) → List Input → ℕ → List ℕ
 shared_bytes table inputs c =
     if c == str_offsets_code
@@ -77,7 +76,7 @@ section_list f cu tu =
     ∷ shared str_offsets_code ∷ shared macinfo_code ∷ shared macro_code ∷ shared loclists_code ∷ shared rnglists_code ∷ of str_code (str_of table)
     ∷ of cu_index_code cu ∷ of tu_index_code tu ∷ []
 
--- "each non-empty section once in order of code"
+-- an empty section is left out
 unfoldable pub non_empty : Section → Bool
 non_empty s = nat_le 1 (length s.bytes)
 
@@ -87,7 +86,7 @@ package_sections big version f =
     let ks = kept f.units in
     those non_empty (section_list f (index_bytes big version (rows_of ks compilation_table)) (index_bytes big version (rows_of ks type_table)))
 
--- "The package is a bundle: the same head, the first object's word, each non-empty section once in order of code, end. Without objects it is head and end."
+-- one object, of the first one's word and the package's sections; none where the bundle has no objects
 unfoldable pub package_objects : List Object → List Section → List Sections
 package_objects [] ss = []
 package_objects (o ∷ os) ss = record { word = o.word; sections = ss } ∷ []
@@ -114,7 +113,7 @@ unfoldable pub handed_in : List ℕ → List Filed
 handed_in b = elim (bundle_of b >>= filing_of b) [ pass f ↦ f.units | refuse n ↦ [] ]
 
 -- ---- repeats and namesakes
--- "An accepted packing also answers how many of each were skipped. ... A refusal has both counts zero."
+-- how many of each kind were skipped; with a refusal, 18 too, none
 unfoldable pub counted : Kind → List ℕ → Answer → ℕ
 counted k b (made p) = count_of k (handed_in b)
 counted k b (short n) = 0

@@ -1,5 +1,4 @@
 -- An object's str_offsets piece by piece: each has its own header and entries, is judged alone (8 and 9) and is remapped once.
--- Assumes nothing.
 use Rattle.std.specs.Prelude.{List, [], ◌∷◌, ◌++◌, map, ℕ}
 use Rattle.octets.specs.Octets.{part}
 use Rattle.octets.specs.Lists.{joined}
@@ -27,6 +26,6 @@ unfoldable pub used_in : List Piece → List (List ℕ)
 used_in [] = []
 used_in (p ∷ ps) = p.used ++ used_in ps
 
--- "parts in order of offset, sizes kept"
+-- each piece with new values, in order of offset; its size stays
 unfoldable pub remapped_all : Encoding → List (List ℕ) → List Piece → List ℕ
 remapped_all e table ps = joined (map (λ p. remapped e table p.bytes p.used) ps)

@@ -1,6 +1,5 @@
 -- What it is for units to be handed in with a bundle: they stand in its objects' sections of units and fill them, and each of them is a unit. The theorem
 -- of crate archive says so of every accepted bundle.
--- Assumes nothing.
 use Rattle.std.specs.Prelude.{◌≡◌, ◌⊎◌, ◌↔◌, Bool, List, [], ◌∷◌, ◌++◌, ℕ, ◌+◌, length}
 use Rattle.std.proofs.Math.Option.{some}
 use Rattle.octets.specs.Checked.{pass}
@@ -23,11 +22,11 @@ pub record ReadAt (u : Filed) (place : ℕ) : Type 0 where
   pub theirs : abbreviations_for u.input u.home place (length u.bytes) ≡ pass abbreviations
   pub alone : unit_of u.input.encoding u.home abbreviations u.bytes
       ≡ pass (record { size = length u.bytes; table = u.table; identity = u.identity })
-  -- "the lookup of the identity read must end at that row"
+  -- the search for the identity that was read ends at that row
   pub ends : (x : Index) → index_by_place u.input u.home ≡ some x
       → (row : ℕ) × (the_one (naming x place (length u.bytes)) ≡ pass row) × (row_of x (probe x u.identity) ≡ pass row)
 
--- somewhere, and for the table that document 01 says
+-- somewhere, and for the table that its section and, in version 5, its unit type say
 pub record IsUnit (u : Filed) : Type 0 where
   pub place : ℕ
   pub read : ReadAt u place

@@ -1,5 +1,4 @@
 -- What the packer answers over an output that it has cleared itself, and the small packer's answers.
--- Assumes nothing.
 use mathlib.Core.Path.{◌≡◌, sym, ap, ◌∙◌}
 use mathlib.Core.Bool.{true, false}
 use mathlib.Core.List.{List}

@@ -1,5 +1,4 @@
 -- The packer meets its contracts.
--- Assumes nothing.
 pub mod Counted
 pub mod Outcomes
 pub mod ObjectUnits

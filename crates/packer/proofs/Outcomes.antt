@@ -1,5 +1,4 @@
 -- Every answer of the packer, from what its code has found: 1 to 3, a refusal of filing, and what finishing answers.
--- Assumes nothing.
 use mathlib.Core.Path.{◌≡◌, sym, ap, ◌∙◌, subst}
 use mathlib.Core.Bool.{Bool, true, false, ◌&&◌}
 use mathlib.Core.List.{List}

@@ -1,5 +1,4 @@
 -- The walk over the objects of a bundle: the first word, and what the loop keeps.
--- Assumes nothing.
 use mathlib.Core.Path.{◌≡◌, refl, sym, ap, ◌∙◌, subst}
 use mathlib.Core.Logic.{⊎_elim}
 use mathlib.Core.Bool.{Bool}

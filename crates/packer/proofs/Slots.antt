@@ -1,5 +1,4 @@
 -- The slots of identities seen, cleared table by table, and the roots of the strings' index.
--- Assumes nothing.
 use mathlib.Core.Path.{◌≡◌, sym, ap, ◌∙◌, subst}
 use mathlib.Core.Logic.{⊎_elim}
 use mathlib.Core.List.{List}

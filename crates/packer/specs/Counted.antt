@@ -1,5 +1,4 @@
 -- The packer's answer with both counts: those of `counted` of `package/specs/Pack.antt`, which are zero where no package is made.
--- Assumes nothing.
 use Rattle.std.specs.Prelude.{List, ℕ, Result, Ok, Err}
 use Rattle.package.specs.Filing.{repeat, namesake}
 use Rattle.package.specs.Pack.{Answer, counted}

@@ -1,5 +1,4 @@
 -- What the functions that file the objects of a bundle require and answer, from the definitions. Nothing here need be believed.
--- Assumes nothing.
 use Rattle.std.specs.Prelude.{◌≡◌, Bool, false, List, [], ◌∷◌, ◌++◌, ℕ, ◌+◌, ◌*◌, ◌%◌, ◌≤◌, length, drop, Result}
 use Rattle.numbers.specs.Limits.{bundle_limit, work_for_word}
 use Rattle.octets.specs.Octets.{zeros}

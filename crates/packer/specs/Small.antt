@@ -1,6 +1,5 @@
 -- The small packer: bundles of at most 1,024 bytes, else 1, and 5,120 words of work.
 -- The output is lent: o is its length, and the program lends 65,536 bytes. With as many 18 is never the answer (docs/DECISIONS.md, "The small packer's output").
--- Assumes nothing.
 use Rattle.std.specs.Prelude.{true, false, List, ℕ, if◌then◌else◌}
 use Rattle.numbers.specs.Limits.{small_bundle, small_work}
 use Rattle.numbers.specs.Refusals.{bad_length}

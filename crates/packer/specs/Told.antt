@@ -1,5 +1,4 @@
 -- The packer's answer as a caller is told it, in numbers.
--- Assumes nothing.
 use Rattle.std.specs.Prelude.{List, ℕ, Result, Ok, Err}
 use Rattle.numbers.specs.Refusals.{output_short}
 use Rattle.answers.specs.Outcome.{Outcome, refused, short, made, outcome_of}

@@ -1,5 +1,4 @@
 -- Words that are zero, for the functions that clear lent words. Nothing here need be believed.
--- Assumes nothing.
 use Rattle.std.specs.Prelude.{◌≡◌, List, ℕ, ◌<◌, slice_index}
 
 -- the first n words are zero

@@ -1,5 +1,4 @@
 -- Laws of chains and of marks.
--- Assumes nothing.
 pub mod Chaining
 pub mod Marking
 pub mod Walking

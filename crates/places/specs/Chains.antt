@@ -1,5 +1,4 @@
 -- Chains of rows: the rows that name a place in one word of a section, the last one first.
--- Assumes nothing.
 use Rattle.std.specs.Prelude.{◌≡◌, Some, None, Bool, true, false, List, [], ◌∷◌, ℕ, ◌+◌, ◌-◌, ◌/◌, ◌<◌, ◌≤◌, length, set, ◌==◌, nat_lt, slice_index, if◌then◌else◌}
 use Rattle.std.proofs.Math.Option.{Option, some, none}
 use Rattle.octets.specs.Lists.{those}

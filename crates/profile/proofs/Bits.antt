@@ -1,5 +1,4 @@
 -- The bits of the conditions that fail: how a loop adds them up, and that none is set exactly where all conditions hold.
--- Assumes nothing.
 use mathlib.Core.Path.{◌≡◌, refl, sym, ap, ◌∙◌}
 use mathlib.Core.Bool.{Bool, true, false, not}
 use mir.Val.{bool_byte}

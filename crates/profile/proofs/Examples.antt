@@ -1,5 +1,4 @@
 -- The archive profile, as the checker computes it: a package that is in it, one for each condition that fails alone, and what is no package.
--- Assumes nothing.
 use mathlib.Core.Path.{◌≡◌, refl}
 use mathlib.Core.Bool.{false}
 use mathlib.Core.List.{List, [], ◌∷◌}

@@ -1,5 +1,4 @@
 -- A package without an object has 8 bytes, and one with an object has more and an encoding that 4 lets pass.
--- Assumes nothing.
 use mathlib.Core.Path.{◌≡◌, refl, ap, sym, ◌∙◌}
 use mathlib.Core.Bool.{true}
 use mathlib.Core.List.{List, [], ◌∷◌}

@@ -1,5 +1,4 @@
 -- The verdict from what the code holds: the conditions by the head are the definition's, and the bits decide.
--- Assumes nothing.
 use mathlib.Core.Path.{◌≡◌, refl, ap, ◌∙◌}
 use mathlib.Core.Bool.{Bool, true, false, not, ◌&&◌, ◌||◌}
 use mir.Val.{bool_byte}

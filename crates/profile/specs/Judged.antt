@@ -1,5 +1,4 @@
 -- The conditions by what the code holds of a package, and the verdict as callers are told it. Nothing here need be believed but `judged`, the last definition.
--- Assumes nothing.
 use Rattle.std.specs.Prelude.{Bool, true, false, not, ◌&&◌, List, [], ◌∷◌, ℕ, Option, Some, None, ◌==◌, slice_index}
 use Rattle.numbers.specs.Sections.{macro_code}
 use Rattle.numbers.specs.Tables.{index5}

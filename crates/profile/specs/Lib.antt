@@ -1,4 +1,3 @@
 -- The archive profile of a package.
--- Assumes nothing.
 pub mod Profile
 pub mod Judged

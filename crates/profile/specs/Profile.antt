@@ -1,5 +1,4 @@
 -- The archive profile: which packages the archive group takes. Any other well formed package is not in it, and a bad one is 21.
--- Assumes nothing.
 use Rattle.std.specs.Prelude.{Bool, true, false, not, List, [], ◌∷◌, ℕ, ◌+◌, ◌*◌, ◌==◌, if◌then◌else◌}
 use Rattle.std.proofs.Math.Option.{Option, some, none}
 use Rattle.numbers.specs.Sections.{macro_code}

@@ -1,5 +1,4 @@
 -- Laws on reading a file that was written: its headers, its names, its sections, and the encoding that the first unit states.
--- Assumes nothing.
 pub mod Headers
 pub mod Names
 pub mod Listed

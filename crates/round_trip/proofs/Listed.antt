@@ -1,5 +1,4 @@
 -- The headers of a written file, header by header: each section's has the section's code and bytes, and the name table's is the last.
--- Assumes nothing.
 use mathlib.Core.Path.{◌≡◌, refl, sym, ap, ◌∙◌}
 use mathlib.Core.Bool.{true, ◌||◌}
 use mathlib.Core.List.{List, [], ◌∷◌, ◌++◌, append_assoc, append-nil}

@@ -1,5 +1,4 @@
 -- The name table: each name is found at its place, and gives its section's code.
--- Assumes nothing.
 use mathlib.Core.Path.{◌≡◌, refl, sym, ap, ◌∙◌, subst}
 use mathlib.Core.Logic.{⊎_elim}
 use mathlib.Core.Bool.{true}

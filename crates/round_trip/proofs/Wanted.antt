@@ -1,5 +1,4 @@
 -- Of listed headers the wanted ones are the sections', in order; they are readable, and their info is the sections' info.
--- Assumes nothing.
 use mathlib.Core.Path.{◌≡◌, refl, sym, ap, ap₂, ◌∙◌}
 use mathlib.Core.Logic.{⊎_elim}
 use mathlib.Core.Bool.{true, false, not, ◌&&◌, ◌||◌}

@@ -1,5 +1,4 @@
 -- The sheet of the package of one unit on a page of 80 bytes, and 35 on one of 79; and the sheet of a package of a type unit.
--- Assumes nothing.
 use mathlib.Core.Path.{◌≡◌, refl}
 use mathlib.Core.Bool.{false}
 use mathlib.Core.List.{List, [], ◌∷◌, ◌++◌}
@@ -17,15 +16,15 @@ use Rattle.answers.specs.Answers.{refused, made}
 use Rattle.sheet.specs.Sheet
 use Rattle.sheet.specs.Sheet.{sheet_of}
 
--- document 01, "A whole package": the package
+-- the package of FORMAT 14
 abbrev pub example : List ℕ
 example = numbers_of false 4 (0xF0000000 ∷ 0x10080405 ∷ 0x20800014 ∷ 0x10 ∷ 0x8050005 ∷ 0 ∷ 1 ∷ 0 ∷ 0x21800001 ∷ 0 ∷ 0x26000040 ∷ 5 ∷ 2 ∷ 1 ∷ 2 ∷ 0 ∷ 0 ∷ 1 ∷ 0 ∷ 0 ∷ 1 ∷ 1 ∷ 3 ∷ 0 ∷ 0 ∷ 0x14 ∷ 1 ∷ 0x3000001C ∷ [])
 
--- "C 0000000000000001 01 00000000 00000014"
+-- its first line: info, 20 bytes
 abbrev pub first : List ℕ
 first = 67 ∷ 32 ∷ 48 ∷ 48 ∷ 48 ∷ 48 ∷ 48 ∷ 48 ∷ 48 ∷ 48 ∷ 48 ∷ 48 ∷ 48 ∷ 48 ∷ 48 ∷ 48 ∷ 48 ∷ 49 ∷ 32 ∷ 48 ∷ 49 ∷ 32 ∷ 48 ∷ 48 ∷ 48 ∷ 48 ∷ 48 ∷ 48 ∷ 48 ∷ 48 ∷ 32 ∷ 48 ∷ 48 ∷ 48 ∷ 48 ∷ 48 ∷ 48 ∷ 49 ∷ 52 ∷ 10 ∷ []
 
--- "C 0000000000000001 03 00000000 00000001"
+-- its second line: abbrev, 1 byte
 abbrev pub second : List ℕ
 second = 67 ∷ 32 ∷ 48 ∷ 48 ∷ 48 ∷ 48 ∷ 48 ∷ 48 ∷ 48 ∷ 48 ∷ 48 ∷ 48 ∷ 48 ∷ 48 ∷ 48 ∷ 48 ∷ 48 ∷ 49 ∷ 32 ∷ 48 ∷ 51 ∷ 32 ∷ 48 ∷ 48 ∷ 48 ∷ 48 ∷ 48 ∷ 48 ∷ 48 ∷ 48 ∷ 32 ∷ 48 ∷ 48 ∷ 48 ∷ 48 ∷ 48 ∷ 48 ∷ 48 ∷ 49 ∷ 10 ∷ []
 

@@ -1,5 +1,4 @@
 -- The cell that a line names is the one that a lookup reads: by the place of its column, for codes that are good and distinct.
--- Assumes nothing.
 use mathlib.Core.Path.{◌≡◌, refl, sym}
 use mathlib.Core.Bool.{Bool, true, false, ◌&&◌}
 use mathlib.Core.List.{List, [], ◌∷◌}

@@ -1,5 +1,4 @@
 -- A loop over the slots, from the last one to the first, that marks their rows.
--- Assumes nothing.
 use mathlib.Core.Path.{◌≡◌, sym, ap, ◌∙◌}
 use mathlib.Core.Bool.{true, false}
 use mathlib.Core.List.{List, [], ◌∷◌}

@@ -1,5 +1,4 @@
 -- Laws of the slots of a row: none, one or more, by marks and by the definition.
--- Assumes nothing.
 use mathlib.Core.Path.{◌≡◌, refl, sym, ap, ◌∙◌}
 use mathlib.Core.Bool.{true, false}
 use mathlib.Core.List.{List, [], ◌∷◌}

@@ -1,5 +1,4 @@
 -- Laws of a table of a package that was opened: what the code holds of its index, its measure and its lines.
--- Assumes nothing.
 use mathlib.Core.Path.{◌≡◌, refl, sym, ap, ◌∙◌}
 use mathlib.Core.Bool.{Bool, true, false}
 use mathlib.Core.List.{List, [], ◌∷◌}

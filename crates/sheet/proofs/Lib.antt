@@ -1,5 +1,4 @@
 -- The laws that the code of the sheet cites.
--- Assumes nothing.
 pub mod Examples
 pub mod LawLines
 pub mod LawMarks

@@ -1,5 +1,4 @@
 -- The tables of a package that was opened, as the code measures and writes them. Nothing here need be believed.
--- Assumes nothing.
 use Rattle.std.specs.Prelude.{◌≡◌, true, false, List, ◌++◌, ℕ, ◌+◌, ◌-◌, ◌≤◌, length, ◌==◌, if◌then◌else◌}
 use Rattle.numbers.specs.Tables.{compilation_table, type_table}
 use Rattle.octets.specs.Octets.{zeros, padded}

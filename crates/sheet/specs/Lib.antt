@@ -1,5 +1,4 @@
--- Document 02, ticket 6: the index on a printed page.
--- Assumes nothing.
+-- FORMAT 9: the index on a printed page.
 pub mod Sheet
 pub mod Held
 pub mod Laid

@@ -1,5 +1,4 @@
--- Document 02, ticket 6: the sheet of a package, both tables with a line for each row and column, on a page that is lent.
--- Assumes nothing.
+-- The sheet of a package (FORMAT 9): both tables with a line for each row and column, on a page that is lent.
 use Rattle.std.specs.Prelude.{true, false, List, [], ◌∷◌, ◌++◌, ℕ, zero, suc, ◌+◌, ◌*◌, ◌-◌, ◌/◌, ◌%◌, length, ◌==◌, nat_le, nat_lt, slice_index, if◌then◌else◌}
 use Rattle.std.proofs.Math.Option.{Option, some, none}
 use Rattle.numbers.specs.Refusals.{bad_package, page_short}
@@ -30,28 +29,27 @@ letter_t = 84
 unfoldable pub digit : ℕ → ℕ
 digit n = if nat_lt n 10 then 48 + n else 87 + n
 
--- w "lower-case hexadecimal digits"
+-- w hexadecimal digits
 unfoldable pub hex : ℕ → ℕ → List ℕ
 hex zero n = []
 hex (suc w) n = hex w (n / 16) ++ (digit (n % 16) ∷ [])
 
--- "two decimal digits"
+-- two digits, for a section code
 unfoldable pub decimal : ℕ → List ℕ
 decimal n = digit (n / 10) ∷ digit (n % 10) ∷ []
 
--- "C or T, a space, the identity as 16 lower-case hexadecimal digits, a space, our section code as two decimal digits, a space, offset, a space, size,
--- both 8 lower-case hexadecimal digits, and a newline"
+-- the letter of the table, identity, section code, offset and size, with a space between each two, and a newline
 unfoldable pub line : ℕ → ℕ → ℕ → ℕ → ℕ → List ℕ
 line letter identity section offset size =
     letter ∷ space ∷ (hex 16 identity ++ (space ∷ (decimal section ++ (space ∷ (hex 8 offset ++ (space ∷ (hex 8 size ++ (newline ∷ []))))))))
 
 -- ---- a row
--- "our section code": that of the section whose column has a code
+-- the code of the section whose column has this code
 unfoldable pub section_in : List Column → ℕ → ℕ
 section_in [] code = 0
 section_in (c ∷ cs) code = if c.column == code then c.section else section_in cs code
 
--- "a line for each column in the index's order", for the cells from number n on
+-- one line for each cell of a row, as the index orders its columns, from cell n on
 unfoldable pub cell_lines : ℕ → Index → ℕ → ℕ → List ℕ → List ℕ
 cell_lines letter i identity n [] = []
 cell_lines letter i identity n (code ∷ codes) =
@@ -68,13 +66,13 @@ identities_in row [] identities = []
 identities_in row (r ∷ rs) [] = []
 identities_in row (r ∷ rs) (x ∷ xs) = if r == row then x ∷ identities_in row rs xs else identities_in row rs xs
 
--- "and here so is one with a row that has not exactly one slot"
+-- 21 also where a row has no slot or more than one
 unfoldable pub only : List ℕ → Check ℕ
 only [] = refuse bad_package
 only (x ∷ []) = pass x
 only (x ∷ y ∷ ys) = refuse bad_package
 
--- ---- a table, "rows in order": n of them from one on
+-- ---- a table: n of its rows from one on
 unfoldable pub rows_from : ℕ → Index → ℕ → ℕ → Check (List ℕ)
 rows_from letter i row zero = pass []
 rows_from letter i row (suc n) = do
@@ -86,7 +84,7 @@ unfoldable pub table_lines : ℕ → Option Index → Check (List ℕ)
 table_lines letter (some i) = rows_from letter i 1 i.units
 table_lines letter none = pass []
 
--- ---- "both tables, compilation first"; "A bad package is refused by 21"
+-- ---- both tables, that of compilation units first; 21 for a bad package
 unfoldable pub sheet_lines : List ℕ → Check (List ℕ)
 sheet_lines p = do
   k ← package_of p
@@ -94,7 +92,7 @@ sheet_lines p = do
   types ← table_lines letter_t k.tu_index
   pass (compilations ++ types)
 
--- "Refused: 35, after 21, for a page buffer too short": for a page of o bytes
+-- 35, which comes behind 21: for a page of o bytes
 unfoldable pub on_page : Check (List ℕ) → ℕ → Answer
 on_page (refuse n) o = refused n
 on_page (pass lines) o = if nat_le (length lines) o then made lines else refused page_short

@@ -1,5 +1,5 @@
 // A package from standard input: its sheet, or the refusal. Longer packages than 65,536 bytes are cut there, and refused for it.
-// The stored input is the package of document 01's example, the stored output its sheet in document 02.
+// The stored input is the package of FORMAT 14, the stored output its sheet there.
 #![tactic(auto)]
 
 use answers::Written;

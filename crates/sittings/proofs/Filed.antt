@@ -1,5 +1,4 @@
 -- What holds of each unit that is filed, whatever was filed before it.
--- Assumes nothing.
 use mathlib.Core.Path.{◌≡◌, sym, subst}
 use mathlib.Core.Bool.{Bool}
 use mathlib.Core.List.{List, [], ◌∷◌, ◌++◌}

@@ -1,5 +1,4 @@
 -- The kept units of all objects together, and of the package's object with further ones: alike, home by home, and with the same columns.
--- Assumes nothing.
 use mathlib.Core.Path.{◌≡◌, refl, sym, ap, ap₂, ◌∙◌, subst}
 use mathlib.Core.Logic.{◌⊎◌, inl, inr, ⊎_elim}
 use mathlib.Core.Bool.{Bool, true, false}

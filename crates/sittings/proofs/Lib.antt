@@ -1,5 +1,4 @@
 -- Packing in two sittings: laws.
--- Assumes nothing.
 pub mod Filed
 pub mod Given
 pub mod Content

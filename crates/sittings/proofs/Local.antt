@@ -1,5 +1,4 @@
 -- A unit is read from its own bytes: what stands behind it doesn't count, nor do abbreviations but for a unit of info in version 4.
--- Assumes nothing.
 use mathlib.Core.Path.{◌≡◌, refl, sym, ap, ◌∙◌}
 use mathlib.Core.Logic.{◌⊎◌, ⊎_elim}
 use mathlib.Core.Bool.{true, false, not}

@@ -1,5 +1,4 @@
 -- The parts of str_offsets that the rows of a package name are pieces of its objects.
--- Assumes nothing.
 use mathlib.Core.Path.{◌≡◌, refl, sym, ap, ap₂, ◌∙◌, subst}
 use mathlib.Core.Logic.{⊎_elim}
 use mathlib.Core.Bool.{Bool, true, false}

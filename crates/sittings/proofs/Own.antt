@@ -1,5 +1,4 @@
 -- A version 4 unit of info was read by its own part of abbrev: the whole section or, where its row is found by its place, that row's part.
--- Assumes nothing.
 use mathlib.Core.Path.{◌≡◌, refl, sym, ap, ap₂, ◌∙◌}
 use mathlib.Core.Bool.{Bool, true, false, not, ◌&&◌}
 use mathlib.Core.List.{List, [], ◌∷◌, ◌++◌}

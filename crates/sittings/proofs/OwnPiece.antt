@@ -1,5 +1,4 @@
 -- Version 5: what a unit contributes of str_offsets, where it has bytes, is one piece of its object's.
--- Assumes nothing.
 use mathlib.Core.Path.{◌≡◌, refl, sym, ap, ◌∙◌, subst}
 use mathlib.Core.Logic.{⊎_elim}
 use mathlib.Core.Bool.{Bool, true, false, not, ◌||◌}

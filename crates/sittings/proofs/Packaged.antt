@@ -1,5 +1,4 @@
 -- The package's object as an input: what it files, and what it gives to the shared sections.
--- Assumes nothing.
 use mathlib.Core.Path.{◌≡◌, refl, sym, ap, ◌∙◌, subst}
 use mathlib.Core.Logic.{◌⊎◌}
 use mathlib.Core.Bool.{Bool, true}

@@ -1,5 +1,4 @@
 -- The str_offsets of a package, read again: the same strings in the same order, and remapped by any table it is what its objects' would be.
--- Assumes nothing.
 use mathlib.Core.Path.{◌≡◌, refl, sym, ap, ap₂, ◌∙◌, subst}
 use mathlib.Core.Logic.{⊎_elim}
 use mathlib.Core.Bool.{true, false}

@@ -1,3 +1,2 @@
 -- Packing in two sittings.
--- Assumes nothing.
 pub mod Sittings

@@ -1,5 +1,4 @@
 -- Packing in two sittings: a bundle is packed, and its package's object, with further objects behind it, is packed again.
--- Assumes nothing.
 use Rattle.std.specs.Prelude.{◌≡◌, Bool, List, [], ◌++◌, map, ℕ, ◌*◌, ◌/◌, ◌≤◌, ◌<◌, length, slice_index}
 use Rattle.numbers.specs.Limits.{bundle_limit, work_for_word}
 use Rattle.octets.specs.Octets.{part}
@@ -33,8 +32,8 @@ pub record Sitting (big : Bool) (os : List Sections) (b p : List ℕ) : Type 0 w
   pub accepted : packed b work output ≡ made p
 
 -- ---- two
--- "if a bundle of one or more objects is packed, and the package's object followed by further objects is packed again, and both are accepted, then packing
--- all the objects together gives the same package": where the joined bundle is within the length limit, and work and output are long enough
+-- os are packed first, then the object of their package with further ones behind it, and both sittings are accepted: then a bundle of os and the further objects, within
+-- the length limit, with work and output long enough, gives the second sitting's package
 abbrev pub TwoSittings : Type 0
 TwoSittings =
     (big : Bool) (os whole further : List Sections) (first second together p q : List ℕ) (work output : ℕ)

@@ -1,3 +1,2 @@
--- Document 01, "A whole package": how the small packer's program writes a word.
--- Assumes nothing.
+-- How the small packer's program writes a word (FORMAT 6.12).
 pub mod Lines

@@ -1,5 +1,4 @@
--- "each package word as 8 upper-case hexadecimal digits", with a newline.
--- Assumes nothing.
+-- A word as a line: 8 hexadecimal digits with capitals, and a newline.
 use Rattle.std.specs.Prelude.{true, false, List, [], ◌∷◌, ℕ, ◌+◌, ◌/◌, ◌%◌, nat_lt, if◌then◌else◌}
 
 -- the character of a digit: 0 to 9 from 48 on, A to F from 65 on

@@ -1,5 +1,5 @@
-// The small packer of document 01: a bundle from standard input; the words of its package, or the refusal.
-// The stored input and output are document 01's whole package.
+// The small packer: a bundle from standard input; the words of its package, or the refusal.
+// The stored input and output are the example of FORMAT 14.
 #![tactic(auto)]
 
 ghost use Rattle.std.specs.Prelude.{◌≡◌, ◌<◌};
@@ -22,7 +22,7 @@ fn digit(d: u32) -> u8
 }
 
 // A word as a line. Its digits are made here, since its clause says which they are. No clause says what `{:08X}` writes; and of the library `hex`, the
-// function for bytes that are lent writes small letters, where document 01 has capitals, and the one that writes capitals needs a heap.
+// function for bytes that are lent writes small letters, where the format has capitals, and the one that writes capitals needs a heap.
 #[tactic(auto, unfolding(crate::specs::Lines::line_of))]
 fn line(word: u32) -> [u8; 9]
     ensures { result ≡ line_of word }

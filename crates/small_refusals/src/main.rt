@@ -1,7 +1,7 @@
 // Small bundles from standard input, each following a word with its length: for each the refusal, or the length of its package.
 // The stored bundles are those of docs/DIFFERENCES.md that are refused, in its order, each refused by the number that it stands under there; following them
 // lengths that 1 refuses and words that 3 refuses; then nine that are packed, and their lengths by hand, section by section with each section's word:
-// - document 01's whole package, 112; no object, 8; a bundle of 1,024 bytes, which gets a cu_index: 1,024 + 80;
+// - the example (FORMAT 14), 112; no object, 8; a bundle of 1,024 bytes, which gets a cu_index: 1,024 + 80;
 // - version 4, packages whose rows share parts, of docs/DIFFERENCES.md, 16: two units with one part of abbrev, 8 + 44 + 16 + 108 + 4 = 180; a compilation unit and two type units,
 //   8 + 24 + 52 + 16 + 68 + 108 + 4 = 280; a type kept already, the other one following it, 8 + 52 + 8 + 108 + 4 = 180;
 // - version 5, packages of docs/DIFFERENCES.md, 10 and 34: without strings, 112, which is thorin's answer too; two parts of str_offsets,

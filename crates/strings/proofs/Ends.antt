@@ -1,5 +1,4 @@
 -- Laws of the string at an offset, which ends before a zero byte, and of the strings that entries name.
--- Assumes nothing.
 use mathlib.Core.Path.{◌≡◌, refl, sym, ap, ◌∙◌}
 use mathlib.Core.Logic.{◌⊎◌, inl, inr, ⊎_elim}
 use mathlib.Core.Bool.{false}

@@ -1,5 +1,4 @@
--- Document 01's worked example of strings, and one of a version 5 header.
--- Assumes nothing.
+-- The worked example of FORMAT 4.3, and one of a version 5 header.
 use mathlib.Core.Path.{◌≡◌, refl}
 use mathlib.Core.Bool.{false, true}
 use mathlib.Core.List.{List, [], ◌∷◌, ◌++◌}

@@ -1,5 +1,4 @@
 -- Laws of the table of strings: it grows only at its end, has every string that was put, and none twice.
--- Assumes nothing.
 use mathlib.Core.Path.{◌≡◌, refl, sym, ap, ◌∙◌}
 use mathlib.Core.Logic.{⊎_elim}
 use mathlib.Core.Bool.{Bool, true, false}

@@ -1,5 +1,4 @@
 -- Laws of the hash: turns of the loop that computes it, and where a search starts.
--- Assumes nothing.
 use mathlib.Core.Path.{◌≡◌}
 use mathlib.Core.Bool.{false}
 use mathlib.Core.List.{List}

@@ -1,5 +1,4 @@
 -- Pieces written one behind the other, each with the next of the numbers; and what comes out where the numbers are the places of the strings that their entries name.
--- Assumes nothing.
 use Rattle.std.proofs.lemmas.Grind.{common_steps}
 use mathlib.Core.Path.{◌≡◌, refl, sym, ap, ap₂, ◌∙◌}
 use mathlib.Core.List.{List, [], ◌∷◌, ◌++◌, map, append_assoc}

@@ -1,5 +1,4 @@
 -- The cases of a header and of entries as the code tests them, and of a string that ends at the first zero byte.
--- Assumes nothing.
 use mathlib.Core.Path.{◌≡◌, refl, sym, ap, ◌∙◌}
 use mathlib.Core.Bool.{Bool, true, false, ◌&&◌, ◌||◌}
 use mathlib.Core.List.{List, ◌∷◌, ◌++◌}

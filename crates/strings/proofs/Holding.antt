@@ -1,5 +1,4 @@
 -- The region that holds the table of kept strings: a search of it, one row more with its number in the index, and one place more.
--- Assumes nothing.
 use mathlib.Core.Path.{◌≡◌, refl, sym, ap, ◌∙◌}
 use mathlib.Core.Logic.{◌⊎◌, inl, inr, ⊎_elim}
 use mathlib.Core.Bool.{Bool, true, false}

@@ -1,5 +1,4 @@
 -- The state of the table of kept strings: what putting one string leaves.
--- Assumes nothing.
 use Rattle.std.proofs.Common.{rules}
 use mathlib.Core.Path.{◌≡◌, sym, ap, ap₂, ◌∙◌}
 use mathlib.Core.Bool.{true, false}

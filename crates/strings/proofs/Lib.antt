@@ -1,5 +1,4 @@
 -- Laws of strings: the table of first uses, strings at offsets, the sections written.
--- Assumes nothing.
 pub mod Examples
 pub mod FirstUses
 pub mod Ends

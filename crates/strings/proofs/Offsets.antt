@@ -1,5 +1,4 @@
 -- Laws of offsets in a table of strings: what was found early stays, and the str section has the string there.
--- Assumes nothing.
 use mathlib.Core.Path.{◌≡◌, refl, sym, ap, ap₂, ◌∙◌}
 use mathlib.Core.Logic.{⊎_elim}
 use mathlib.Core.Bool.{true, false}

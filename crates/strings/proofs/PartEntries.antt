@@ -1,5 +1,4 @@
 -- Entries of a part of a str_offsets section, and the numbers that stand for them in the section written.
--- Assumes nothing.
 use mathlib.Core.Path.{◌≡◌, sym, ap, ◌∙◌}
 use mathlib.Core.Bool.{true}
 use mathlib.Core.List.{List, []}

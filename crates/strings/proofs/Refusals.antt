@@ -1,5 +1,4 @@
 -- A theorem of its own, which a reader may cite: a string that does not end is refused by the caller's number alone.
--- Assumes nothing.
 use mathlib.Core.Bool.{Bool, true, false}
 use mathlib.Core.List.{List, [], ◌∷◌}
 use Prim.Native.Nat.{ℕ}

@@ -1,5 +1,4 @@
 -- Laws of the str_offsets section that is written: as long as the one it stands for, and its entries are the new offsets.
--- Assumes nothing.
 use Rattle.std.proofs.lemmas.Grind.{common_steps}
 use Rattle.std.proofs.Common.{rules}
 use mathlib.Core.Path.{◌≡◌, refl, ap}

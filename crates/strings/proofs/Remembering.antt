@@ -1,5 +1,4 @@
 -- What is remembered of an object's str by a string's start: nothing at first, and one place more.
--- Assumes nothing.
 use mathlib.Core.Path.{◌≡◌, refl, sym, ap, ◌∙◌}
 use mathlib.Core.Logic.{⊎_elim}
 use mathlib.Core.Bool.{true, false}

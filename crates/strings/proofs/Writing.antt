@@ -1,5 +1,4 @@
 -- The str section written from the table of kept strings.
--- Assumes nothing.
 use Rattle.std.proofs.lemmas.Grind.{common_steps}
 use mathlib.Core.Path.{◌≡◌, sym, ap, ◌∙◌}
 use mathlib.Core.List.{List, [], ◌∷◌}

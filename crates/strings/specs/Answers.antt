@@ -1,5 +1,4 @@
 -- The string at an offset as the code answers it: its place, or none.
--- Assumes nothing.
 use Rattle.std.specs.Prelude.{List, ℕ, length, Option, Some, None}
 use Rattle.octets.specs.Checked.{Check, pass, refuse}
 use Rattle.strings.specs.declared.table.Place.{Place}

@@ -1,6 +1,5 @@
 -- A str_offsets section piece by piece, as code walks it: in version 5 each piece has its own header, which states how long it is; in version 4 the section
 -- is one piece. Nothing here need be believed: laws say that the pieces which 8 let pass are these.
--- Assumes nothing.
 use Rattle.std.specs.Prelude.{◌≡◌, true, false, List, [], ◌∷◌, ◌++◌, ℕ, ◌+◌, ◌*◌, ◌/◌, ◌<◌, ◌≤◌, ◌^◌, length, take, drop, Result, ◌==◌, if◌then◌else◌}
 use Rattle.numbers.specs.Tables.{dwarf5}
 use Rattle.numbers.specs.Limits.{string_words}

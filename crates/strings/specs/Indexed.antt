@@ -2,7 +2,6 @@
 -- one of two links leads on, and the string's own bits say which. So strings of one hash part by their bits.
 -- A region of 7 n words holds n rows of three words; behind them two links for each row; a place for each of n entries; and n roots. Roots and links hold the number of a
 -- row, counted from 1; 0 leads nowhere.
--- Assumes nothing.
 use Rattle.std.specs.Prelude.{◌≡◌, true, false, List, [], ◌∷◌, ℕ, zero, suc, ◌+◌, ◌*◌, ◌-◌, ◌/◌, ◌%◌, ◌^◌, ◌<◌, ◌≤◌, length, drop, Result, Ok, Err, nat_lt, slice_index, slice_index_or, if◌then◌else◌}
 use Rattle.numbers.specs.Limits.{string_words}
 use Rattle.octets.specs.Octets.{number_at}

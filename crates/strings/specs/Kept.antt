@@ -1,5 +1,4 @@
 -- The table of kept strings as the code holds it: words of a lent region, and a state by value. Nothing here need be believed.
--- Assumes nothing.
 use Rattle.std.specs.Prelude.{◌≡◌, true, false, List, [], ◌∷◌, ◌++◌, map, ℕ, ◌+◌, ◌*◌, ◌/◌, ◌^◌, ◌<◌, ◌≤◌, length, take, Option, Some, None, Result, Ok, Err, nat_lt, slice_index, slice_index_or}
 use Rattle.numbers.specs.Limits.{section_limit, string_words}
 use Rattle.numbers.specs.Refused.{number_of}

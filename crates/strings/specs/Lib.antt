@@ -1,5 +1,4 @@
--- Document 01, "Strings": entries (8), the string at an offset (9), the table of first uses, the sections written. Document 02, ticket 8: their index.
--- Assumes nothing.
+-- FORMAT 4: entries (8), the string at an offset (9), the table of first uses, the sections written; and an index of the kept strings, for speed.
 pub mod Strings
 pub mod Answers
 pub mod Indexed

@@ -1,5 +1,4 @@
 -- An object's str_offsets and str as the code is handed them, and what callers have lent. Nothing here need be believed.
--- Assumes nothing.
 use Rattle.std.specs.Prelude.{◌≡◌, List, [], ◌∷◌, ◌++◌, ℕ, ◌+◌, ◌*◌, ◌<◌, ◌≤◌, ◌^◌, length, Result, Ok, Err}
 use Rattle.numbers.specs.Limits.{string_words}
 use Rattle.octets.specs.Checked.{Check, pass, refuse}

@@ -1,5 +1,4 @@
 -- What is remembered of an object's str, by the start of a string: a word for each byte, 0 where nothing is known.
--- Assumes nothing.
 use Rattle.std.specs.Prelude.{◌≡◌, true, false, List, ℕ, ◌+◌, ◌<◌, ◌≤◌, length, slice_index}
 use Rattle.numbers.specs.Refusals.{no_string}
 use Rattle.octets.specs.Lists.{any, same}

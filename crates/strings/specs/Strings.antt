@@ -1,5 +1,4 @@
--- Strings reached by str_offsets, in order of first use.
--- Assumes nothing.
+-- Strings reached by str_offsets, in order of first use (FORMAT 4).
 use Rattle.std.specs.Prelude.{Bool, true, false, ◌&&◌, ◌||◌, List, [], ◌∷◌, ◌++◌, map, ℕ, ◌+◌, ◌-◌, ◌/◌, ◌%◌, length, take, drop, ◌==◌, nat_le, if◌then◌else◌}
 use Rattle.numbers.specs.Tables.{dwarf5}
 use Rattle.numbers.specs.Refusals.{bad_str_offsets, no_string}
@@ -9,16 +8,16 @@ use Rattle.octets.specs.Checked.{Check, pass, refuse, ◌>>=◌, require}
 use Rattle.bundle.specs.Encoding.{Encoding}
 use Rattle.bundle.specs.InitialLength.{marked, length_field, length_stated}
 
--- "Version 5 str_offsets has a header of 8 bytes (width 4) or 16 (width 8)"; version 4 has none
+-- the bytes of the header (FORMAT 4.1; DWARF 5, 7.26): two widths in version 5, none in version 4
 unfoldable pub header_size : Encoding → ℕ
 header_size e = if e.version == dwarf5 then e.width + e.width else 0
 
--- "the length of the rest, 5, 0"; a length of 8 bytes stands behind FFFFFFFF
+-- it states how many bytes follow the length, then version 5 and padding 0; a length of 8 bytes stands behind FFFFFFFF
 unfoldable pub header_true : Encoding → List ℕ → Bool
 header_true e s =
     if e.version == dwarf5
     then nat_le (length_field e + 4) (length s) && (e.width == 4 || marked e.big s) && length_stated e s == length s - length_field e
-              && number_at e.big 2 s (length_field e) == dwarf5 && number_at e.big 2 s (length_field e + 2) == 0
+    && number_at e.big 2 s (length_field e) == dwarf5 && number_at e.big 2 s (length_field e + 2) == 0
     else true
 
 -- the whole entries behind the header
@@ -46,7 +45,7 @@ unfoldable pub strings_at : List ℕ → List ℕ → Check (List (List ℕ))
 strings_at str [] = pass []
 strings_at str (o ∷ os) = string_at no_string str o >>= λ s. (strings_at str os >>= λ ss. pass (s ∷ ss))
 
--- "The table behaves as a map filled in order of first use": a new string goes to the end, a known one changes nothing
+-- the table of strings (FORMAT 4.3): a new string goes to the end, a known one changes nothing
 unfoldable pub put : List (List ℕ) → List ℕ → List (List ℕ)
 put table s = if any (same s) table then table else table ++ (s ∷ [])
 

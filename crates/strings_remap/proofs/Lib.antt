@@ -1,3 +1,2 @@
 -- What the checks of this program are given.
--- Assumes nothing.
 pub mod Sections

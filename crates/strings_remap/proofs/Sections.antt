@@ -1,6 +1,5 @@
 -- What the checks of `write_sections` and of `remap` are given: how long the sections are, that a true header lies within its section, and what the words of the
 -- table have room for.
--- Assumes nothing.
 use Rattle.std.proofs.Common.{◌≡◌, List, ℕ, ◌*◌, ◌/◌, ◌≤◌, ◌<◌, ◌^◌, arith, length}
 use lib.ListN.{take}
 use lib.Seq.{length-take-le}

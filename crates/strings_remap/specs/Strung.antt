@@ -1,5 +1,4 @@
 -- An object whose strings can be put, and one whose strings are put, so that its sections can be written.
--- Assumes nothing.
 use Rattle.std.specs.Prelude.{◌≡◌, false, List, ℕ, ◌+◌, ◌*◌, ◌/◌, ◌≤◌, length}
 use Rattle.numbers.specs.Limits.{string_words}
 use Rattle.octets.specs.Checked.{pass}

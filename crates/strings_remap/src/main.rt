@@ -189,11 +189,11 @@ fn version_5(big: bool, wide: bool) -> ObjectEncoding {
     }
 }
 
-// Document 01's example in each encoding.
+// The example of FORMAT 4.3 in each encoding.
 fn show_document(rt: &impl Print) -> io::Result<()> {
     let text = b"a\0bc\0";
     let e = &[2, 0, 2];
-    show(rt, "document 01", version_4(false, false), b"", e, text)?;
+    show(rt, "example", version_4(false, false), b"", e, text)?;
     show(rt, "big-endian", version_4(true, false), b"", e, text)?;
     show(rt, "width 8", version_4(false, true), b"", e, text)?;
     show(

@@ -1,5 +1,4 @@
 -- A unit read alone, from its own bytes, is the unit that is read from its section; and it is for the type table exactly if it is a type unit.
--- Assumes nothing.
 use mathlib.Core.Path.{◌≡◌, sym, ap, ◌∙◌, subst}
 use mathlib.Core.Logic.{◌⊎◌, ◌↔◌, inl, inr, ⊎_elim}
 use mathlib.Core.Bool.{true, false, ◌||◌}

@@ -1,5 +1,4 @@
 -- A unit that is read has at least 20 bytes: the header's, and those of its identity.
--- Assumes nothing.
 use mathlib.Core.Path.{◌≡◌, refl, sym, ◌∙◌}
 use mathlib.Core.Logic.{inl, inr, ⊎_elim}
 use mathlib.Core.Bool.{Bool, true, false}

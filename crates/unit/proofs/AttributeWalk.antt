@@ -1,5 +1,4 @@
 -- The walk over a root's attributes, at its places in the bundle and in the unit.
--- Assumes nothing.
 use mathlib.Core.Path.{◌≡◌, refl, sym, ap, ap₂, ◌∙◌}
 use mathlib.Core.Bool.{true}
 use mathlib.Core.List.{List, ◌++◌}

@@ -1,5 +1,4 @@
 -- The declarations of an abbreviation table up to its zero code: equations without a bound, by what stands at the front.
--- Assumes nothing.
 use mathlib.Core.Path.{◌≡◌, refl, sym, ap, ◌∙◌}
 use mathlib.Core.List.{List, [], ◌∷◌}
 use Prim.Native.Nat.{ℕ, zero, suc, ◌+◌, ◌≤◌}

@@ -1,6 +1,5 @@
 -- Units and their identities, as the checker computes them: a root with an attribute of every form, units of every type, reserved lengths; and one unit for each
 -- fault of a table, a root and a header.
--- Assumes nothing.
 use mathlib.Core.Path.{◌≡◌, refl}
 use mathlib.Core.Bool.{false}
 use mathlib.Core.List.{List, [], ◌∷◌, ◌++◌, map}

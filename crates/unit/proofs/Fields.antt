@@ -1,5 +1,4 @@
 -- The fields of a unit's header: their places, and the size of a unit that ends in its section.
--- Assumes nothing.
 use mathlib.Core.Path.{◌≡◌, refl, sym, ap, ◌∙◌}
 use mathlib.Core.Bool.{Bool, true, false}
 use mathlib.Core.Logic.{inl, inr, ⊎_elim}

@@ -1,5 +1,4 @@
 -- The search for a code in an abbreviation table that is held in a tree.
--- Assumes nothing.
 use mathlib.Core.Path.{◌≡◌, refl, sym, subst, ap, ◌∙◌}
 use mathlib.Core.Bool.{true, false}
 use mathlib.Core.List.{List, [], ◌∷◌}

@@ -1,5 +1,4 @@
 -- Laws of units, and the proofs of their readers.
--- Assumes nothing.
 pub mod Steps
 pub mod Sizes
 pub mod Fields

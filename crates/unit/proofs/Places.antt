@@ -1,5 +1,4 @@
 -- One declaration of an abbreviation table, and where its attributes lie.
--- Assumes nothing.
 use mathlib.Core.Path.{◌≡◌, sym, ap, ap₂, ◌∙◌}
 use mathlib.Core.Bool.{not}
 use mathlib.Core.List.{List}

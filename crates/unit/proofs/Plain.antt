@@ -1,5 +1,4 @@
 -- A unit read with abbreviations that are known, in one chain of tests; and one whose abbreviations go by its size.
--- Assumes nothing.
 use mathlib.Core.Path.{◌≡◌, refl, sym, ap, subst, ◌∙◌}
 use mathlib.Core.Bool.{true, not}
 use mathlib.Core.List.{List}

@@ -1,5 +1,4 @@
 -- The identity that the root states, by its table, its code, its tag and its attributes.
--- Assumes nothing.
 use mathlib.Core.Path.{◌≡◌, refl, sym, ap, ◌∙◌}
 use mathlib.Core.Bool.{true, false}
 use mathlib.Core.List.{List}

@@ -1,5 +1,4 @@
 -- What the code answers, and what a definition says: of an option, and of a refusal that leaves.
--- Assumes nothing.
 use mathlib.Core.Path.{◌≡◌, refl, sym, ap}
 use mathlib.Core.Option.{some, none}
 use mathlib.Core.Option as math

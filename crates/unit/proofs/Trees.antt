@@ -1,5 +1,4 @@
 -- Walks in a tree of codes, and a tree with one code more.
--- Assumes nothing.
 use mathlib.Core.Path.{◌≡◌, refl, sym, subst, ap, ap₂, ◌∙◌}
 use mathlib.Core.Bool.{true, false}
 use mathlib.Core.List.{List, [], ◌∷◌, ◌++◌}

@@ -1,5 +1,4 @@
 -- Walks over an abbreviation table: what the declaration at the front says of the whole table.
--- Assumes nothing.
 use mathlib.Core.Path.{◌≡◌, sym, ap, ◌∙◌}
 use mathlib.Core.List.{List, [], ◌∷◌}
 use mathlib.Core.Option.{Option, some, none}

@@ -1,5 +1,4 @@
--- "The abbreviation table at the header's offset in abbrev is read to its zero code." Every fault gives 12.
--- Assumes nothing.
+-- An abbreviation table, read up to the code of zero that ends it (FORMAT 3.7; DWARF 5, 7.5.3). Every fault gives 12.
 use Rattle.std.specs.Prelude.{true, false, not, ◌&&◌, List, [], ◌∷◌, map, ℕ, zero, suc, ◌+◌, length, drop, ◌==◌, nat_le, slice_index, if◌then◌else◌}
 use Rattle.std.proofs.Math.Option.{Option, some, none}
 use Rattle.numbers.specs.Refusals.{no_identity}

@@ -1,5 +1,4 @@
--- "The widths of forms are one table, of the DWARF 4 forms plus 1F01 and 1F02 hexadecimal (both ULEB128)."
--- Assumes nothing.
+-- The forms that a root may use, with the widths of their values (FORMAT 3.9): those of DWARF 4, 7.5.4, and the two by which GNU tools name addresses and strings.
 use Rattle.std.specs.Prelude.{true, false, List, [], ◌∷◌, ℕ, suc, ◌+◌, length, ◌==◌, nat_le, if◌then◌else◌}
 use Rattle.std.proofs.Math.Option.{Option, some, none}
 use Rattle.numbers.specs.Refusals.{no_identity}

@@ -1,5 +1,4 @@
 -- The parts of reading a unit, and what the code's values are by the definition.
--- Assumes nothing.
 use Rattle.std.specs.Prelude.{Bool, true, false, not, ◌&&◌, ◌||◌, List, ℕ, ◌+◌, length, take, drop, ◌==◌, nat_le, slice_index, if◌then◌else◌}
 use Rattle.numbers.specs.Tabled.{table_number}
 use Rattle.numbers.specs.Tables.{type_table, type_unit, skeleton_unit, split_unit, split_type_unit, compilation_table}

@@ -1,5 +1,4 @@
--- Document 01, "Units and their identities": forms and their widths, abbreviation tables, the root, a unit with its identity (11, 12, 13).
--- Assumes nothing.
+-- FORMAT 3: forms and their widths, abbreviation tables, the root, a unit with its identity (11, 12, 13).
 pub mod Forms
 pub mod Widths
 pub mod Abbreviations

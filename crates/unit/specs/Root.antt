@@ -1,5 +1,4 @@
--- "In info, version 4: the identity is the value of the root's first attribute 2131 hexadecimal, form data8, plain or by indirect; else 12."
--- Assumes nothing.
+-- The identity of a version 4 compilation unit, which its root states (FORMAT 3.6); 12 where it can't be read.
 use Rattle.std.specs.Prelude.{Bool, true, false, ◌||◌, List, [], ◌∷◌, ℕ, ◌+◌, length, drop, ◌==◌, nat_le, if◌then◌else◌}
 use Rattle.std.proofs.Math.Option.{Option, some, none}
 use Rattle.numbers.specs.Refusals.{no_identity}

@@ -1,5 +1,4 @@
 -- The walk over a root's attributes as code takes it, and what its values are by the definition.
--- Assumes nothing.
 use Rattle.std.specs.Prelude.{Option, Some, None, Result, Ok, Err, ◌≡◌, true, false, List, ℕ, ◌+◌, ◌≤◌, length, drop, ◌==◌, if◌then◌else◌}
 use Rattle.std.proofs.Math.Option.{some, none}
 use Rattle.std.proofs.Math.Option as math
@@ -32,7 +31,7 @@ unfoldable pub attribute_step : Encoding → List ℕ → List ℕ → math.Opti
 attribute_step e t s seen = attribute_at t >>= λ r. if r.0.name == 0
     then pass none
     else value_of e r.0.form s >>= λ v.
-          (identity_at e r.0.name v s seen >>= λ x. pass (some (record { taken = r.1; passed = v.start + v.size; seen = x })))
+    (identity_at e r.0.name v s seen >>= λ x. pass (some (record { taken = r.1; passed = v.start + v.size; seen = x })))
 
 abbrev pub moved_is : Option moved.Move → math.Option Move
 moved_is (Some m) = some (record { taken = m.taken; passed = m.passed; seen = seen_is m.seen })

@@ -1,6 +1,5 @@
 -- Runs of attributes that take no bytes of a unit and change nothing that is stated, which are passed at once.
 -- These relations say what the code keeps: no definition of reading units rests on them.
--- Assumes nothing.
 use Rattle.std.specs.Prelude.{◌≡◌, Bool, true, List, ◌++◌, ℕ}
 use Rattle.std.proofs.Math.Option.{none}
 use Rattle.std.proofs.Math.Option as math

@@ -1,6 +1,5 @@
 -- A table that was judged: its declarations in a tree of their codes, whose nodes carry where in the table they stand. What was judged is remembered.
 -- These relations say what the code keeps: no definition of reading units rests on them.
--- Assumes nothing.
 use Rattle.std.specs.Prelude.{Option, Some, None, Result, Ok, Err, IfSome, ◌≡◌, Bool, true, false, List, [], map, ℕ, ◌+◌, ◌-◌, ◌*◌, ◌/◌, ◌^◌, ◌<◌, ◌≤◌, length, take, drop, slice_index, slice_index_or, if◌then◌else◌}
 use Rattle.std.proofs.Math.Option.{some}
 use Rattle.octets.specs.Octets.{part}

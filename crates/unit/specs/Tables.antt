@@ -1,5 +1,4 @@
 -- An abbreviation table as code reads it: where a declaration's attributes lie, and what the code's values are by the definition.
--- Assumes nothing.
 use Rattle.std.specs.Prelude.{Option, Some, None, ◌≡◌, Bool, true, false, not, ◌&&◌, List, ℕ, ◌+◌, ◌≤◌, length, drop, ◌==◌, nat_le, slice_index, if◌then◌else◌}
 use Rattle.std.proofs.Math.Option.{some, none}
 use Rattle.std.proofs.Math.Option as math

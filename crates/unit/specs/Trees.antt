@@ -1,7 +1,6 @@
 -- Codes in a digital search tree, in lent words. A node has five words: the nodes on its left and on its right, 0 where there is none; a number that it carries; its code, low
 -- and high word. Node 0 is the root, which no link names. At each step the lowest bit that is left of a code says where it goes on.
 -- These relations say what the code keeps: no definition of reading units rests on them.
--- Assumes nothing.
 use Rattle.std.specs.Prelude.{◌≡◌, Bool, true, false, List, [], ◌∷◌, ◌++◌, ℕ, zero, suc, ◌+◌, ◌*◌, ◌/◌, ◌%◌, ◌^◌, ◌<◌, ◌≤◌, length, Option, Some, None, Result, Ok, Err, slice_index}
 use Rattle.octets.specs.Lists.{has}
 

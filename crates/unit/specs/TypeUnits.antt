@@ -1,5 +1,4 @@
--- "Units of types, and unit types 2 and 6 of version 5, are handed in for the type table, the others for the compilation table".
--- Assumes nothing.
+-- Which units are for the type table: those that stand in types, and in version 5 those of unit type 2 or 6 (FORMAT 3.4 to 3.6). All others are for the compilation table.
 use Rattle.std.specs.Prelude.{◌≡◌, ◌⊎◌, List, ℕ, ◌+◌, slice_index}
 use Rattle.numbers.specs.Sections.{types_code}
 use Rattle.numbers.specs.Tables.{dwarf5, type_unit, split_type_unit}

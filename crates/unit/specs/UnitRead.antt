@@ -1,5 +1,4 @@
--- A unit, read from the part of its section that starts at it: header (11), identity (12), identity 0 (13).
--- Assumes nothing.
+-- A unit at the front of what is left of its section: header (11), identity (12), identity 0 (13). FORMAT 3.1 to 3.6.
 use Rattle.std.specs.Prelude.{Bool, true, false, not, ◌||◌, List, [], ℕ, ◌+◌, length, take, drop, ◌==◌, nat_le, nat_lt, slice_index, if◌then◌else◌}
 use Rattle.numbers.specs.Sections.{info_code}
 use Rattle.numbers.specs.Tables.{compilation_table, type_table, dwarf5, type_unit, skeleton_unit, split_unit, split_type_unit}
@@ -53,15 +52,15 @@ identity_five e type u =
     if type == skeleton_unit || type == split_unit
     then behind_common e compilation_table 8 u
     else if type == type_unit || type == split_type_unit
-        then behind_common e type_table (8 + e.width) u
-        else refuse no_identity
+    then behind_common e type_table (8 + e.width) u
+    else refuse no_identity
 
 -- version 4: in info the root's, in types the signature, with a type offset behind it
 unfoldable pub identity_four : Encoding → ℕ → List ℕ → List ℕ → Check Identity
 identity_four e home abbreviations u =
     if home == info_code
     then (root_identity e (drop (number_at e.big e.width u (length_field e + 2)) abbreviations) (drop (common_size e) u)
-              >>= λ x. pass (record { table = compilation_table; identity = x }))
+    >>= λ x. pass (record { table = compilation_table; identity = x }))
     else behind_common e type_table (8 + e.width) u
 
 -- home is the section's code, 1 info or 2 types; u is the unit's own bytes

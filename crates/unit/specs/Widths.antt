@@ -1,5 +1,4 @@
 -- The code's form of a width, and the size of a value that ends in the bytes at hand.
--- Assumes nothing.
 use Rattle.std.specs.Prelude.{Bool, List, ℕ, ◌+◌, length, nat_le}
 use Rattle.numbers.specs.Refusals.{no_identity}
 use Rattle.octets.specs.Octets.{number_at}

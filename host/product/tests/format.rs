@@ -204,7 +204,8 @@ fn named(text: &str) -> Vec<usize> {
 }
 
 /// Where it is looked for.
-const SWEPT: [&str; 5] = ["host/product", "examples", "tools", "Makefile", "run-definitions.json"];
+const SWEPT: [&str; 8] =
+    ["crates", "host", "docs", "examples", "tools", "README.md", "Makefile", "run-definitions.json"];
 
 #[test]
 fn no_file_names_an_unpublished_paper() {

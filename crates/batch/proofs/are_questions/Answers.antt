@@ -1,5 +1,4 @@
 -- `batch::are_questions` meets its contract.
--- Assumes nothing.
 use mathlib.Core.Path.{refl, ◌∙◌}
 use Prim.Native.Nat.{◌/◌}
 use native.Mathlib.Omega.{arith}

@@ -1,5 +1,4 @@
 -- `bundle::check_items` meets its contract.
--- Assumes nothing.
 use mathlib.Core.Path.{sym, ap, ◌∙◌}
 use Rattle.std.proofs.Common.{rules}
 use Rattle.octets.specs.Checked.{pass}

@@ -1,5 +1,4 @@
 -- `bundle::next_item` meets its contract.
--- Assumes nothing.
 use mathlib.Core.Path.{◌∙◌}
 use native.Mathlib.Omega.{arith}
 use Rattle.bundle.proofs.Answers.{no_word, an_object, a_section, an_end, another}

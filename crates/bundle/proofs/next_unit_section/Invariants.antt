@@ -1,5 +1,4 @@
 -- `bundle::next_unit_section` meets its contract. The loop's invariant: from here on the same is found. The measure is what is left of the bundle.
--- Assumes nothing.
 use Prim.Native.Nat.{◌-◌}
 use lib.ListN.{length}
 use Rattle.bundle.proofs.Units.{Seeking}

@@ -1,5 +1,4 @@
 -- `bundle::no_sections` meets its contract.
--- Assumes nothing.
 use mathlib.Core.Path.{refl}
 use Rattle.octets.specs.Lists.{those}
 use Rattle.bundle.specs.Bundle.{count, parts_of, first_part}

@@ -1,5 +1,4 @@
 -- `bundle::offsets_size` meets its contract.
--- Assumes nothing.
 use mathlib.Core.Path.{sym, ap, ◌∙◌}
 use native.Mathlib.Omega.{arith}
 use Rattle.octets.specs.Checked.{pass}

@@ -1,5 +1,4 @@
 -- `bundle::offsets_size` meets its contract. The loop's invariant: what is counted and what lies ahead are the whole. The measure is what is left of the bundle.
--- Assumes nothing.
 use Prim.Native.Nat.{◌-◌}
 use lib.ListN.{length}
 use Rattle.bundle.proofs.Offsets.{Counted}

@@ -1,5 +1,4 @@
 -- `bundle::reach_end` meets its contract. The loop's invariant: the items from here on reach the end just where all do. The measure is what is left of the bundle.
--- Assumes nothing.
 use mathlib.Core.Path.{◌≡◌}
 use Prim.Native.Nat.{◌-◌}
 use lib.ListN.{length, drop}

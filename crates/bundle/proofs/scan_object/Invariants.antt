@@ -1,5 +1,4 @@
 -- `bundle::scan_object` meets its contract. The loop's invariant: the scan is that of the sections passed. The measure is what is left of the bundle.
--- Assumes nothing.
 use Prim.Native.Nat.{◌-◌}
 use lib.ListN.{length}
 use Rattle.bundle.proofs.Scanning.{Scanned}

@@ -1,5 +1,4 @@
 -- `leb128::read_groups` meets its contract. Invariant: from here on the same comes out, and what was read is below the factor.
--- Assumes nothing.
 use Rattle.leb128.proofs.Readers.{Walked}
 use Rattle.leb128.proofs.read_groups.Given as goal
 

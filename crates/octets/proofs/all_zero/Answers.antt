@@ -1,5 +1,4 @@
 -- `octets::all_zero` meets its contract.
--- Assumes nothing.
 use Rattle.std.proofs.Common.{rules, tests, sym, ◌∙◌, eqb}
 use Rattle.std.proofs.lemmas.Iterator.{YieldsList-from_slice}
 use Rattle.std.proofs.lemmas.Iterator.Search.{all_from_yields_List}

@@ -1,5 +1,4 @@
 -- `octets::big` meets its contract. Invariant: from here on the same number comes out as from the front.
--- Assumes nothing.
 use mathlib.Core.Path.{◌≡◌}
 use lib.ListN.{drop}
 use Rattle.octets.specs.Octets.{big_from}

@@ -1,5 +1,4 @@
 -- `octets::bytes_at` meets its contract.
--- Assumes nothing.
 use mathlib.Core.Path.{◌∙◌}
 use Rattle.octets.proofs.Parts.{part_cut}
 use Rattle.octets.proofs.bytes_at.Goals as goal

@@ -1,5 +1,4 @@
 -- `octets::first_zero` meets its contract. Invariant: no byte that was passed is zero.
--- Assumes nothing.
 use Prim.Native.Nat.{◌-◌, ◌≤◌}
 use lib.ListN.{length}
 use Rattle.octets.proofs.ZeroBytes.{Clear}

@@ -1,5 +1,4 @@
 -- `octets::little` meets its contract. Invariant: n is what the bytes that were passed state.
--- Assumes nothing.
 use Rattle.octets.proofs.Numbers.{passed_none, passed_more, passed_fits}
 use Rattle.octets.proofs.little.Goals as goal
 

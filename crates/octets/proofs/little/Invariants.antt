@@ -1,5 +1,4 @@
 -- `octets::little` meets its contract. Invariant: n is what the bytes that were passed state.
--- Assumes nothing.
 use Rattle.octets.proofs.Numbers.{Passed}
 use Rattle.octets.proofs.little.Given as goal
 

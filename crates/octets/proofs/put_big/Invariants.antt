@@ -1,5 +1,4 @@
 -- `octets::put_big` meets its contract. Invariant: what is still to be placed.
--- Assumes nothing.
 use mathlib.Core.Path.{◌≡◌}
 use Prim.Native.Nat.{◌-◌}
 use Rattle.octets.specs.Octets.{big_of, placed}

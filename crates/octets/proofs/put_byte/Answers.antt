@@ -1,5 +1,4 @@
 -- `octets::put_byte` meets its contract.
--- Assumes nothing.
 use Rattle.octets.proofs.Placed.{placed_byte}
 use Rattle.octets.proofs.put_byte.Goals as goal
 

@@ -1,5 +1,4 @@
 -- `octets::put_bytes` meets its contract.
--- Assumes nothing.
 use mathlib.Core.Path.{◌≡◌, sym}
 use mathlib.Core.List.{append_assoc}
 use Prim.Native.Nat.{◌+◌, ◌-◌}

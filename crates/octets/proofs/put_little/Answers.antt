@@ -1,5 +1,4 @@
 -- `octets::put_little` meets its contract. Invariant: what is still to be placed.
--- Assumes nothing.
 use mathlib.Core.Path.{◌≡◌, sym, ◌∙◌}
 use Prim.Native.Nat.{◌+◌, ◌-◌}
 use native.Mathlib.Omega.{arith}

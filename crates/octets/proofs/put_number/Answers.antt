@@ -1,5 +1,4 @@
 -- `octets::put_number` meets its contract.
--- Assumes nothing.
 use mathlib.Core.Path.{ap, ◌∙◌}
 use Rattle.octets.specs.Octets.{bytes_of, placed}
 use Rattle.octets.proofs.Fixed.{low_word}

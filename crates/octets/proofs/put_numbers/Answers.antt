@@ -1,5 +1,4 @@
 -- `octets::put_numbers` meets its contract. Invariant: what is still to be placed.
--- Assumes nothing.
 use mathlib.Core.Path.{◌≡◌, sym, ap, ◌∙◌}
 use Prim.Native.Nat.{ℕ, ◌+◌, ◌*◌, ◌≤◌}
 use native.Mathlib.Omega.{arith}

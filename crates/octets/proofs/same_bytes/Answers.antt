@@ -1,5 +1,4 @@
 -- `octets::same_bytes` meets its contract.
--- Assumes nothing.
 use mathlib.Core.Path.{◌∙◌}
 use lib.Pointwise.{bytes_decides}
 use Rattle.octets.proofs.Lists.{same_both}

@@ -1,5 +1,4 @@
 -- `octets::set_word` meets its contract.
--- Assumes nothing.
 use Rattle.octets.proofs.Placed.{placed_byte}
 use Rattle.octets.proofs.set_word.Goals as goal
 

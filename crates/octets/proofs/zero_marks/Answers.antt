@@ -1,5 +1,4 @@
 -- `octets::zero_marks` meets its contract.
--- Assumes nothing.
 use native.Mathlib.Omega.{arith}
 use Rattle.octets.proofs.ZeroBytes.{marks_fit, marks_are}
 use Rattle.octets.proofs.zero_marks.Goals as goal

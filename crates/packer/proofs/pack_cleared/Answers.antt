@@ -1,5 +1,4 @@
 -- Each way out is the definition's answer (`Outcomes`).
--- Assumes nothing.
 use mathlib.Core.Path.{◌≡◌, refl, sym, ◌∙◌}
 use mathlib.Core.Bool.{true}
 use Prim.Native.Nat.{◌/◌}

@@ -1,5 +1,4 @@
 -- Over what is cleared the answers are those for the same lengths.
--- Assumes nothing.
 use Rattle.octets.specs.Octets.{zeros}
 use Rattle.packer.proofs.Clearing.{cleared_again}
 use Rattle.packer.proofs.pack_counted.Goals as goal

@@ -1,5 +1,4 @@
 -- The answer without the counts.
--- Assumes nothing.
 use Rattle.packer.proofs.Counted.{made_alone, none_exit}
 use Rattle.packer.proofs.pack_small.Goals as goal
 

@@ -1,5 +1,4 @@
 -- The lower limit, and work of 5,120 words, as the type has it.
--- Assumes nothing.
 use mathlib.Core.Path.{sym, ◌∙◌}
 use Rattle.octets.specs.Octets.{zeros}
 use Rattle.packer.proofs.Clearing.{small_refused, small_packed}

@@ -1,5 +1,4 @@
 -- `profile::failed_bits` meets its contract: the bits of the conditions passed, from the last one on.
--- Assumes nothing.
 use native.Mathlib.Omega.{arith}
 use Rattle.std.proofs.Common.{rules}
 use Rattle.profile.proofs.Bits.{passed_small, byte_small}

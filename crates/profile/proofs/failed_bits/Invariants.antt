@@ -1,5 +1,4 @@
 -- `profile::failed_bits` meets its contract: the bits of the conditions passed, from the last one on.
--- Assumes nothing.
 use Rattle.profile.proofs.Bits.{Passed}
 use Rattle.profile.proofs.failed_bits.Given as goal
 

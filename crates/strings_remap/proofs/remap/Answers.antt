@@ -1,5 +1,4 @@
 -- The entries were counted, and the store has room for them.
--- Assumes nothing.
 use Rattle.std.proofs.Common.{arith}
 use Rattle.strings.proofs.Callers.{section_counted}
 use Rattle.strings_remap.proofs.Sections.{stringable}

@@ -168,8 +168,8 @@ Exit status: 0 listed; 1 refused; 2 a wrong call, or a file that can't be read."
 
 const PROFILE: &str = "\
 Usage: barthovin profile [OPTION]... PACKAGE
-Say yes where a package is in the archive profile, or no and which of its conditions are not true: DWARF version 5, little-endian, offset
-width 4, address size 8, no macro section, and a cu_index of version 5 with at least one row.
+Say yes where a package is in the archive profile, or no and which of its conditions are not true: DWARF 5 in little-endian
+bytes, offsets of 4 bytes, addresses of 8, no macro section, and a cu_index of version 5 with at least one row.
 
 PACKAGE is a file, as it is or as an ELF file (.dwp), or - for standard input.
 

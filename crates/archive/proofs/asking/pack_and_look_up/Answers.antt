@@ -1,5 +1,4 @@
 -- `pack_and_look_up` meets its contract: by those of packing and of looking up, and the theorem.
--- Assumes nothing.
 use mathlib.Core.Path.{sym, ap, ◌∙◌}
 use Rattle.answers.specs.Outcome.{outcome_as}
 use lib.Seq.{length-take-le}

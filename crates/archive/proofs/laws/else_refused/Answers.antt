@@ -1,5 +1,4 @@
 -- The law is proved in `Unread.antt`.
--- Assumes nothing.
 use Rattle.archive.proofs.Unread as law
 use Rattle.archive.proofs.laws.else_refused.Goals as goal
 

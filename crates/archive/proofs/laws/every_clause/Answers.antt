@@ -1,5 +1,4 @@
 -- The law is proved in `Clauses.antt`.
--- Assumes nothing.
 use Rattle.archive.proofs.Clauses as law
 use Rattle.archive.proofs.laws.every_clause.Goals as goal
 

@@ -1,5 +1,4 @@
 -- The law is proved in `FromBundleToAnswer.antt`.
--- Assumes nothing.
 use Rattle.archive.proofs.FromBundleToAnswer as law
 use Rattle.archive.proofs.laws.from_bundle_to_answer.Goals as goal
 

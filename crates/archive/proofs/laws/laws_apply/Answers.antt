@@ -1,5 +1,4 @@
 -- The law is proved in `Applied.antt`.
--- Assumes nothing.
 use Rattle.archive.proofs.Applied as law
 use Rattle.archive.proofs.laws.laws_apply.Goals as goal
 

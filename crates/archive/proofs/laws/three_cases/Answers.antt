@@ -1,5 +1,4 @@
 -- The law is proved in `Rules.antt`.
--- Assumes nothing.
 use Rattle.archive.proofs.Rules as law
 use Rattle.archive.proofs.laws.three_cases.Goals as goal
 

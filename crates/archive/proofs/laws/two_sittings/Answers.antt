@@ -1,5 +1,4 @@
 -- The law is proved in `TwoSittings.antt`.
--- Assumes nothing.
 use Rattle.archive.proofs.TwoSittings as law
 use Rattle.archive.proofs.laws.two_sittings.Goals as goal
 

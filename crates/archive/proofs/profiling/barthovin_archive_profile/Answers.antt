@@ -1,5 +1,4 @@
 -- `archive::profiling::barthovin_archive_profile` meets its contract.
--- Assumes nothing.
 use mathlib.Core.Path.{ap}
 use Rattle.profile.specs.Judged.{judged}
 use Rattle.profile.specs.declared.Verdict.{Verdict}

@@ -1,5 +1,4 @@
 -- `batch::AskedPackage::put_answers` meets its contract.
--- Assumes nothing.
 use Prim.Native.Nat.{◌+◌, ◌*◌, ◌-◌}
 use mathlib.Core.Path.{◌≡◌, refl, ap, ◌∙◌}
 use lib.ListN.{length}

@@ -1,5 +1,4 @@
 -- `batch::AskedPackage::put_answers` meets its contract.
--- Assumes nothing.
 use Rattle.batch.proofs.Answering.{Answering}
 use Rattle.batch.proofs.AskedPackage.put_answers.Given as goal
 

@@ -1,5 +1,4 @@
 -- `read_word` meets its contract.
--- Assumes nothing.
 use mathlib.Core.Path.{◌≡◌}
 use mathlib.Core.Logic.{◌⊎◌, inl, inr}
 use Prim.Native.Nat.{◌%◌}

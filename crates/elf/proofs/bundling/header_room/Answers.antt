@@ -1,5 +1,4 @@
 -- `elf::bundling::header_room` meets its contract.
--- Assumes nothing.
 use Rattle.std.proofs.Common.{length, arith}
 use Rattle.bundle.proofs.Next.{filled_up_most}
 use Rattle.elf.specs.Held.{header_sections}

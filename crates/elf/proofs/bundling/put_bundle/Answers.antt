@@ -1,5 +1,4 @@
 -- `elf::bundling::put_bundle` meets its contract.
--- Assumes nothing.
 use Rattle.elf.specs.Held.{all_sections}
 use Rattle.elf.proofs.Putting.{bundle_put}
 use Rattle.elf.proofs.bundling.put_bundle.Goals as goal

@@ -1,5 +1,4 @@
 -- `elf::bundling::put_sections` meets its contract.
--- Assumes nothing.
 use Rattle.std.proofs.Common.{◌∙◌, ◌+◌, List, subst, ap, arith}
 use Rattle.bundle.specs.Written.{Section}
 use Rattle.elf.specs.Held.{room_sum, Appended}

@@ -1,5 +1,4 @@
 -- `elf::bundling::put_sections` meets its contract.
--- Assumes nothing.
 use Rattle.std.proofs.Common.{◌≡◌, ◌+◌, take}
 use Rattle.elf.specs.Held.{file_is, sections_in, room_sum, Appended}
 use Rattle.elf.proofs.bundling.put_sections.Given as goal

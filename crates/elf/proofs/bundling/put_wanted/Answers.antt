@@ -1,5 +1,4 @@
 -- `elf::bundling::put_wanted` meets its contract.
--- Assumes nothing.
 use Rattle.std.proofs.Common.{sym, ap, arith}
 use Rattle.elf.specs.Held.{header_sections, room_sum}
 use Rattle.elf.proofs.Rooms.{room_none}

@@ -1,5 +1,4 @@
 -- `elf::bundling::sections_room` meets its contract.
--- Assumes nothing.
 use Rattle.std.proofs.Common.{◌∙◌, ap, sym, arith}
 use Rattle.std.proofs.lemmas.Result.{err_from_is_err_and}
 use Rattle.octets.specs.Lists.{all}

@@ -1,5 +1,4 @@
 -- `elf::bundling::sections_room` meets its contract.
--- Assumes nothing.
 use Rattle.std.proofs.Common.{◌≡◌, ◌*◌, ◌≤◌, true, take}
 use Rattle.octets.specs.Lists.{all}
 use Rattle.elf.specs.Held.{file_is, sections_in, short_enough, room_sum}

@@ -1,5 +1,4 @@
 -- `elf::judging::header_good` meets its contract.
--- Assumes nothing.
 use Rattle.std.proofs.Common.{◌≡◌, ◌∙◌, true, false, not, ◌||◌, sym, ap}
 use Rattle.elf.specs.File.{is_wanted, inside}
 use Rattle.elf.specs.Held.{header_is, header_good}

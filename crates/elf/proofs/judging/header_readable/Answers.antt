@@ -1,5 +1,4 @@
 -- `elf::judging::header_readable` meets its contract.
--- Assumes nothing.
 use Rattle.std.proofs.Common.{◌≡◌, ◌∙◌, Bool, true, false, not, ◌&&◌, ◌/◌, ◌%◌, refl, sym, ap, eqb}
 use borrow.Author.Tests.{ne_eqb, eq-eqb}
 use Rattle.elf.specs.File.{is_wanted, unstored}

@@ -1,5 +1,4 @@
 -- `elf::judging::headers_good` meets its contract.
--- Assumes nothing.
 use Rattle.std.proofs.Common.{◌∙◌, rules, refl, arith}
 use borrow.Author.Tests.{tests}
 use Rattle.std.proofs.lemmas.Iterator.{YieldsList-from_range}

@@ -1,5 +1,4 @@
 -- `elf::naming::code_at` meets its contract.
--- Assumes nothing.
 use mathlib.Core.List.{[]}
 use mathlib.Core.Path.{◌≡◌, ◌∙◌, refl, sym, ap}
 use Prim.Native.Nat.{ℕ}

@@ -1,5 +1,4 @@
 -- `elf::naming::last_end` meets its contract.
--- Assumes nothing.
 use Rattle.std.proofs.Common.{◌≡◌, ◌+◌, ◌-◌, arith}
 use Rattle.elf.proofs.Names.{none_is, last_is}
 use Rattle.elf.proofs.naming.last_end.Goals as goal

@@ -1,5 +1,4 @@
 -- `elf::reading::read_accepted` meets its contract.
--- Assumes nothing.
 use Rattle.std.proofs.Common.{◌∙◌, ℕ, List, length, ap, sym}
 use Rattle.std.proofs.lemmas.Result.{err_from_is_err_and}
 use Rattle.answers.specs.Answers.{answered, written_of, output_of}

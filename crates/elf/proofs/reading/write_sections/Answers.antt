@@ -1,5 +1,4 @@
 -- `elf::reading::write_sections` meets its contract.
--- Assumes nothing.
 use Rattle.std.proofs.Common.{◌≡◌, ◌∙◌, ◌+◌, ◌≤◌, ◌<◌, length, ap, sym, arith}
 use Rattle.std.proofs.lemmas.Result.{err_from_is_err_and}
 use Rattle.answers.proofs.Answering.{refused_written, refused_output, short_written, short_output, made_written, made_output}

@@ -1,5 +1,4 @@
 -- `elf::stating::first_info` meets its contract.
--- Assumes nothing.
 use Rattle.std.proofs.Common.{◌∙◌, sym}
 use borrow.Author.Tests.{eq-eqb, eqb-true}
 use Rattle.octets.proofs.Checks.{true_false}

@@ -1,5 +1,4 @@
 -- `elf::stating::first_info` meets its contract.
--- Assumes nothing.
 use Rattle.std.proofs.Common.{◌≡◌, drop}
 use Rattle.octets.specs.Lists.{those}
 use Rattle.elf.specs.File.{is_wanted}

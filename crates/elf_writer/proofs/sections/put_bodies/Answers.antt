@@ -1,5 +1,4 @@
 -- `elf_writer::sections::put_bodies` meets its contract.
--- Assumes nothing.
 use mathlib.Core.Path.{ap, ◌∙◌}
 use mathlib.Core.List.{List}
 use Prim.Native.Nat.{ℕ, ◌+◌, ◌≤◌}

@@ -1,5 +1,4 @@
 -- `elf_writer::sections::put_bodies` meets its contract.
--- Assumes nothing.
 use Rattle.elf_writer.specs.Held.{body_at}
 use Rattle.elf_writer.proofs.Loops.{Putting}
 use Rattle.elf_writer.proofs.sections.put_bodies.Given as goal

@@ -1,5 +1,4 @@
 -- `elf_writer::sections::put_name_table` meets its contract.
--- Assumes nothing.
 use mathlib.Core.Path.{◌≡◌, ap, ◌∙◌}
 use mathlib.Core.List.{[], ◌∷◌}
 use Prim.Native.Nat.{◌+◌}

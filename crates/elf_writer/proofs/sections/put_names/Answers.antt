@@ -1,5 +1,4 @@
 -- `elf_writer::sections::put_names` meets its contract.
--- Assumes nothing.
 use Rattle.elf_writer.specs.Held.{name_at}
 use Rattle.elf_writer.proofs.Loops.{putting_none, putting_room, putting_more, putting_end, putting_next}
 use Rattle.elf_writer.proofs.sections.put_names.Goals as goal

@@ -1,5 +1,4 @@
 -- `elf_writer::sections::put_names` meets its contract.
--- Assumes nothing.
 use Rattle.elf_writer.specs.Held.{name_at}
 use Rattle.elf_writer.proofs.Loops.{Putting}
 use Rattle.elf_writer.proofs.sections.put_names.Given as goal

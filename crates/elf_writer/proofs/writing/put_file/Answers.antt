@@ -1,5 +1,4 @@
 -- The parts stand one behind the other, and the output has room for all of them.
--- Assumes nothing.
 use Rattle.std.proofs.Common.{◌≡◌, sym, ap, ◌∙◌, List, ℕ, ◌+◌, ◌*◌, ◌≤◌, arith, length}
 use Rattle.octets.specs.Octets.{placed}
 use Rattle.elf.specs.Writer.{file_header}

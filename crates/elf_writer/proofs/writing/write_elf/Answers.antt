@@ -1,5 +1,4 @@
 -- `elf_writer::writing::write_elf` meets its contract.
--- Assumes nothing.
 use Rattle.std.proofs.Common.{◌∙◌, sym, ap}
 use Rattle.octets.specs.Octets.{zeros}
 use Rattle.elf_writer.proofs.writing.write_elf.Goals as goal

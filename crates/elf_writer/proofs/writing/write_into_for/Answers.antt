@@ -1,5 +1,4 @@
 -- 36, or what is written whatever the machine.
--- Assumes nothing.
 use Rattle.std.proofs.Common.{sym, ap, ◌∙◌, length}
 use Rattle.answers.specs.Answers.{Answer, written_of, output_of}
 use Rattle.elf_writer.proofs.Answering.{refused_output, refused_written, written_for_machine, written_for_is}

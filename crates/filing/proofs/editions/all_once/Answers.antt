@@ -1,5 +1,4 @@
 -- `all_once` meets its contract.
--- Assumes nothing.
 use Rattle.std.proofs.Common.{◌∙◌}
 use Rattle.package.specs.Input.{only_once}
 use Rattle.filing.proofs.Counts.{none_listed}

@@ -1,5 +1,4 @@
 -- `edition_right` meets its contract.
--- Assumes nothing.
 use Rattle.std.proofs.Common.{◌∙◌}
 use Rattle.filing.specs.Counted.{wrong_for}
 use Rattle.filing.proofs.Counts.{none_listed}

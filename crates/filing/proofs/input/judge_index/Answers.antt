@@ -1,5 +1,4 @@
 -- `judge_index` meets its contract.
--- Assumes nothing.
 use Rattle.filing.proofs.Judging.{index_other}
 use Rattle.filing.proofs.input.judge_index.Goals as goal
 

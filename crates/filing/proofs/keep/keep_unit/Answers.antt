@@ -1,5 +1,4 @@
 -- `keep_unit` meets its contract.
--- Assumes nothing.
 use mathlib.Core.Path.{subst}
 use lib.ListN.{length}
 use Rattle.kept.specs.Columns.{columns_for, Marked}

@@ -1,5 +1,4 @@
 -- `indexed_input` meets its contract.
--- Assumes nothing.
 use mathlib.Core.Path.{refl}
 use Rattle.filing.specs.Judged.{section_of}
 use Rattle.filing.specs.ByObject.{scanned, scanned_index}

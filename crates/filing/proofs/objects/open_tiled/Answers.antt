@@ -1,5 +1,4 @@
 -- `open_tiled` meets its contract.
--- Assumes nothing.
 use mathlib.Core.Path.{refl}
 use Rattle.filing.proofs.Telling.{tells_exit}
 use Rattle.filing.proofs.InputLaws.{scan_within}

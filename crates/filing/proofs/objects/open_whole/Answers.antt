@@ -1,5 +1,4 @@
 -- `open_whole` meets its contract.
--- Assumes nothing.
 use mathlib.Core.Path.{sym, subst}
 use lib.ListN.{length}
 use Rattle.strings.specs.declared.table.StrOffsets.{StrOffsets}

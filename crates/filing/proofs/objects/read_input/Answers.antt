@@ -1,5 +1,4 @@
 -- `read_input` meets its contract.
--- Assumes nothing.
 use mathlib.Core.Path.{sym, ◌∙◌}
 use Rattle.kept.proofs.RegionLending.{only_same}
 use Rattle.filing.proofs.Telling.{tells_exit}

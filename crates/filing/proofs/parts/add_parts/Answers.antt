@@ -1,5 +1,4 @@
 -- `add_parts` meets its contract.
--- Assumes nothing.
 use mathlib.Core.Path.{refl}
 use Rattle.filing.proofs.Telling.{tells_exit}
 use Rattle.filing.proofs.Storing.{cut_of, cut_table, cut_back, cut_only}

@@ -1,5 +1,4 @@
 -- `judge_parts` meets its contract.
--- Assumes nothing.
 use mathlib.Core.Path.{refl}
 use native.Mathlib.Omega.{arith}
 use Rattle.kept.proofs.RegionStores.{codes_within}

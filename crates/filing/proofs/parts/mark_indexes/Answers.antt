@@ -1,5 +1,4 @@
 -- `mark_indexes` meets its contract.
--- Assumes nothing.
 use mathlib.Core.Path.{◌∙◌}
 use Rattle.index.specs.Tiles.{named}
 use Rattle.filing.proofs.Tiling.{both_first}

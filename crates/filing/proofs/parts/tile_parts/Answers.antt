@@ -1,5 +1,4 @@
 -- `tile_parts` meets its contract.
--- Assumes nothing.
 use mathlib.Core.Path.{sym, ap, ◌∙◌}
 use mathlib.Core.List.{List}
 use Prim.Native.Nat.{ℕ}

@@ -1,5 +1,4 @@
 -- `abbrev_part` meets its contract.
--- Assumes nothing.
 use mathlib.Core.Path.{sym, ◌∙◌}
 use native.Mathlib.Omega.{arith}
 use Rattle.filing.proofs.Abbreviated.{abbrev_outside}

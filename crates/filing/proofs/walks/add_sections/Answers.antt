@@ -1,5 +1,4 @@
 -- `add_sections` meets its contract. What the loop keeps is `Sectioned`, and the tables that were judged.
--- Assumes nothing.
 use mathlib.Core.Path.{refl, sym, ◌∙◌}
 use native.Mathlib.Omega.{arith}
 use Rattle.bundle.proofs.Units.{found_some, found_none}

@@ -1,5 +1,4 @@
 -- `add_sections` meets its contract. What the loop keeps is `Sectioned`, and the tables that were judged.
--- Assumes nothing.
 use Prim.Native.Nat.{◌-◌}
 use lib.ListN.{length}
 use Rattle.filing.specs.State.{Remembered}

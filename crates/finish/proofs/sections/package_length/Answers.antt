@@ -1,5 +1,4 @@
 -- The loop keeps that what is counted and what is left make the length.
--- Assumes nothing.
 use mathlib.Core.Path.{refl}
 use Prim.Native.Nat.{◌≤◌}
 use native.Mathlib.Omega.{arith}

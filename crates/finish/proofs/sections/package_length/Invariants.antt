@@ -1,5 +1,4 @@
 -- The loop keeps that what is counted and what is left make the length.
--- Assumes nothing.
 use mathlib.Core.Path.{◌≡◌}
 use Prim.Native.Nat.{◌+◌, ◌*◌, ◌-◌, ◌≤◌}
 use Rattle.finish.specs.Sections.{framed_from, length_of}

@@ -1,5 +1,4 @@
 -- Each size is within the limit.
--- Assumes nothing.
 use Rattle.std.proofs.Common.{◌≡◌, ◌∙◌, ℕ, leb, rules}
 use borrow.Author.Tests.{tests}
 use Rattle.std.specs.List.{list_all}

@@ -1,5 +1,4 @@
 -- Both tables placed.
--- Assumes nothing.
 use Rattle.finish.proofs.TwoTables.{table_asks, second_asks, both_placed}
 use Rattle.finish.proofs.tables.place_tables.Goals as goal
 

@@ -1,5 +1,4 @@
 -- Each way out is the definition's answer; 4 can't occur here.
--- Assumes nothing.
 use mathlib.Core.Path.{◌≡◌, sym, ap, ◌∙◌}
 use mathlib.Core.List.{List, []}
 use Prim.Native.Nat.{ℕ}

@@ -1,5 +1,4 @@
 -- Head and end, or that they don't fit.
--- Assumes nothing.
 use mathlib.Core.Path.{refl, sym}
 use Rattle.finish.proofs.Answers.{short_answer, short_output, made_answer, made_output}
 use Rattle.finish.proofs.Steps.{empty_length, empty_made}

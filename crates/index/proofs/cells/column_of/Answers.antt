@@ -1,5 +1,4 @@
 -- `index::cells::column_of` meets its contract.
--- Assumes nothing.
 use mathlib.Core.Path.{◌≡◌, refl, ◌∙◌, ap}
 use mathlib.Core.List.{map}
 use borrow.Author.Tests.{tests}

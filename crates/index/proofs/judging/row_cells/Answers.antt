@@ -1,5 +1,4 @@
 -- `index::judging::row_cells` meets its contract.
--- Assumes nothing.
 use native.Mathlib.Omega.{arith}
 use Rattle.index.proofs.Filled.{fill_start, fill_end}
 use Rattle.index.proofs.Columned.{cells_turn}

@@ -1,5 +1,4 @@
 -- `index::judging::row_cells` meets its contract.
--- Assumes nothing.
 use Rattle.index.specs.Contributed.{by_code, chosen, ContributionsAre}
 use Rattle.index.specs.Index.{cell_of}
 use Rattle.index.proofs.Filled.{up_to}

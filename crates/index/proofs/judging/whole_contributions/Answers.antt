@@ -1,5 +1,4 @@
 -- `index::judging::whole_contributions` meets its contract.
--- Assumes nothing.
 use native.Mathlib.Omega.{arith}
 use Rattle.index.proofs.Filled.{fill_start}
 use Rattle.index.proofs.Columned.{whole_turn, whole_end}

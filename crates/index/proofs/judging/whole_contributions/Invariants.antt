@@ -1,5 +1,4 @@
 -- `index::judging::whole_contributions` meets its contract.
--- Assumes nothing.
 use Rattle.index.specs.Contributed.{by_code, chosen, ContributionsAre}
 use Rattle.index.proofs.Filled.{up_to}
 use Rattle.index.proofs.Columned.{whole_cell}

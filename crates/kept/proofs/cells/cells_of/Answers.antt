@@ -1,5 +1,4 @@
 -- `cells_of` meets its contract.
--- Assumes nothing.
 use Rattle.kept.proofs.Moved.{cells_are, cells_fit}
 use Rattle.kept.proofs.cells.cells_of.Goals as goal
 

@@ -1,5 +1,4 @@
 -- `kept::columns::mark_columns` meets its contract: the columns passed are marked, the others as they were.
--- Assumes nothing.
 use Rattle.kept.proofs.Columning.{Marking}
 use Rattle.kept.proofs.columns.mark_columns.Given as goal
 

@@ -1,5 +1,4 @@
 -- `kept::records::store_cells` meets its contract: what is left is still to be stored.
--- Assumes nothing.
 use mathlib.Core.Path.{refl, ap, ◌∙◌}
 use Rattle.index.specs.Contributed.{stated}
 use native.Mathlib.Omega.{arith}

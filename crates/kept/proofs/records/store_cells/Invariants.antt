@@ -1,5 +1,4 @@
 -- `kept::records::store_cells` meets its contract: what is left is still to be stored.
--- Assumes nothing.
 use Prim.Native.Nat.{◌+◌, ◌*◌, ◌-◌}
 use Rattle.kept.specs.Records.{cells_left, cells_of}
 use Rattle.kept.proofs.Copying.{Copying}

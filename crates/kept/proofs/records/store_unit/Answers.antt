@@ -1,5 +1,4 @@
 -- `kept::records::store_unit` meets its contract: the head, and behind it the cells.
--- Assumes nothing.
 use mathlib.Core.Path.{ap, ◌∙◌}
 use mathlib.Core.List.{List}
 use Prim.Native.Nat.{ℕ, ◌+◌, ◌-◌}

@@ -1,5 +1,4 @@
 -- `table_words` meets its contract.
--- Assumes nothing.
 use mathlib.Core.Path.{sym}
 use lib.Seq.{length-take-le}
 use Rattle.kept.proofs.RegionStores.{table_inside}

@@ -1,5 +1,4 @@
 -- `kept::slots::keep` meets its contract.
--- Assumes nothing.
 use native.Mathlib.Omega.{arith}
 use Rattle.kept.proofs.Placing.{slots_start, slot_fits}
 use Rattle.kept.proofs.slots.keep.Goals as goal

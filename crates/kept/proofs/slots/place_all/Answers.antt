@@ -1,5 +1,4 @@
 -- `kept::slots::place_all` meets its contract: records that are left are still to be placed.
--- Assumes nothing.
 use Rattle.kept.proofs.Placing.{placing_none, placing_more}
 use Rattle.kept.proofs.slots.place_all.Goals as goal
 

@@ -1,5 +1,4 @@
 -- `kept::slots::place_all` meets its contract: records that are left are still to be placed.
--- Assumes nothing.
 use Rattle.kept.proofs.Placing.{Placing}
 use Rattle.kept.proofs.slots.place_all.Given as goal
 

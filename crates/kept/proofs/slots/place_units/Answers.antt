@@ -1,5 +1,4 @@
 -- `kept::slots::place_units` meets its contract.
--- Assumes nothing.
 use mathlib.Core.Path.{refl}
 use Rattle.octets.specs.Octets.{zeros}
 use Rattle.kept.proofs.Placing.{slots_start, slots_end, cleared_slots, placed_over}

@@ -1,5 +1,4 @@
 -- `kept::slots::seek_in` meets its contract.
--- Assumes nothing.
 use Rattle.kept.proofs.Placing.{slots_power}
 use Rattle.kept.proofs.slots.seek_in.Goals as goal
 

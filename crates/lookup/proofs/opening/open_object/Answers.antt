@@ -1,5 +1,4 @@
 -- `lookup::opening::open_object` meets its contract.
--- Assumes nothing.
 use Rattle.lookup.proofs.Entering.{entering_reaches, entering_alone, entering_other, entering_refused}
 use native.Mathlib.Omega.{arith}
 use Rattle.lookup.proofs.opening.open_object.Goals as goal

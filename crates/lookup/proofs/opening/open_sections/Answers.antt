@@ -1,5 +1,4 @@
 -- `lookup::opening::open_sections` meets its contract.
--- Assumes nothing.
 use Rattle.lookup.proofs.Opened.{alone_within, alone_word, alone_repeated, alone_cu, alone_tu, alone_good}
 use mathlib.Core.Bool.{true}
 use lib.ListN.{length, take, drop}

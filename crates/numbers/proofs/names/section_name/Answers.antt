@@ -1,5 +1,4 @@
 -- `numbers::names::section_name` meets its contract.
--- Assumes nothing.
 use Rattle.numbers.specs.Names.{dwo_words, index_words, section_names, section_name}
 use Rattle.numbers.proofs.NameTable.{bytes_at}
 use Rattle.numbers.proofs.names.section_name.Goals as goal

@@ -1,5 +1,4 @@
 -- The part that is cleared has the roots.
--- Assumes nothing.
 use mathlib.Core.Path.{refl}
 use native.Mathlib.Omega.{arith}
 use Rattle.packer.proofs.Slots.{roots_cleared}

@@ -1,5 +1,4 @@
 -- The part that is cleared lies in work, and holds the slots.
--- Assumes nothing.
 use mathlib.Core.Path.{refl}
 use native.Mathlib.Omega.{arith}
 use Rattle.kept.proofs.Placing.{slots_start, slots_end}

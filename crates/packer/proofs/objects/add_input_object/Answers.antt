@@ -1,5 +1,4 @@
 -- `add_input_object` meets its contract.
--- Assumes nothing.
 use Rattle.packer.proofs.OneObject.{next_is}
 use Rattle.packer.proofs.objects.add_input_object.Goals as goal
 

@@ -1,5 +1,4 @@
 -- `add_input_objects` meets its contract. What the loop keeps is `SoFar`.
--- Assumes nothing.
 use mathlib.Core.Path.{sym, ap, ◌∙◌}
 use Rattle.octets.specs.Checked.{pass}
 use native.Mathlib.Omega.{arith}

@@ -1,5 +1,4 @@
 -- `add_input_objects` meets its contract. What the loop keeps is `SoFar`.
--- Assumes nothing.
 use Prim.Native.Nat.{◌-◌}
 use lib.ListN.{length}
 use Rattle.packer.proofs.OverObjects.{SoFar}

@@ -1,5 +1,4 @@
 -- `add_object_units` meets its contract.
--- Assumes nothing.
 use Rattle.filing.proofs.Telling.{tells_exit}
 use Rattle.packer.proofs.ObjectUnits.{units_refused, bases_fit, units_added}
 use Rattle.packer.proofs.objects.add_object_units.Goals as goal

@@ -1,5 +1,4 @@
 -- `add_scanned_object` meets its contract.
--- Assumes nothing.
 use Rattle.filing.proofs.Telling.{tells_exit}
 use Rattle.packer.proofs.OneObject.{read_requires, object_refused, object_read, units_answered}
 use Rattle.packer.proofs.objects.add_scanned_object.Goals as goal

@@ -1,5 +1,4 @@
 -- `string_room` meets its contract.
--- Assumes nothing.
 use Rattle.packer.proofs.Start.{rooms}
 use Rattle.packer.proofs.objects.string_room.Goals as goal
 

@@ -1,5 +1,4 @@
 -- `clear_bytes` meets its contract. Invariant: the pages that were passed are zero.
--- Assumes nothing.
 use Prim.Native.Nat.{◌*◌}
 use Rattle.packer.specs.Zeros.{ZeroUpTo}
 use Rattle.packer.proofs.zeroing.clear_bytes.Given as goal

@@ -1,5 +1,4 @@
 -- `joined` meets its contract. Invariant: where all is zero, so are the words that were passed.
--- Assumes nothing.
 use mathlib.Core.Path.{◌≡◌}
 use Rattle.packer.specs.Zeros.{ZeroUpTo}
 use Rattle.packer.proofs.zeroing.joined.Given as goal

@@ -1,5 +1,4 @@
 -- `places::by_place::chain_rows` meets its contract: the rows so far are in their chains.
--- Assumes nothing.
 use mathlib.Core.Path.{ap}
 use native.Mathlib.Omega.{arith}
 use Rattle.index.specs.declared.reading.IndexHead.{IndexHead}

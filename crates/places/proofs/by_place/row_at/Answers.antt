@@ -1,5 +1,4 @@
 -- `places::by_place::row_at` meets its contract: what was found so far, and the rows of the chain that are left.
--- Assumes nothing.
 use mathlib.Core.Path.{refl, ap, ◌∙◌}
 use native.Mathlib.Omega.{arith}
 use Rattle.numbers.specs.Refused.{told}

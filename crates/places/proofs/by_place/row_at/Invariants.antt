@@ -1,5 +1,4 @@
 -- `places::by_place::row_at` meets its contract: what was found so far, and the rows of the chain that are left.
--- Assumes nothing.
 use Rattle.places.proofs.Chaining.{Walking}
 use Rattle.places.proofs.by_place.row_at.Given as goal
 

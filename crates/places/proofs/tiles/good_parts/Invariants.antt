@@ -1,5 +1,4 @@
 -- `places::tiles::good_parts` meets its contract: the parts ahead, of which the same comes out.
--- Assumes nothing.
 use mathlib.Core.List.{List}
 use Prim.Native.Nat.{◌-◌, ◌≤◌}
 use lib.ListN.{length}

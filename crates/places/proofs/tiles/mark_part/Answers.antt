@@ -1,5 +1,4 @@
 -- `places::tiles::mark_part` meets its contract: by the cell and what is marked at its place.
--- Assumes nothing.
 use mathlib.Core.Path.{refl}
 use native.Mathlib.Omega.{arith}
 use Rattle.octets.proofs.Placed.{placed_byte}

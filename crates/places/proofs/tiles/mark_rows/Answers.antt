@@ -1,5 +1,4 @@
 -- `places::tiles::mark_rows` meets its contract: the rows so far are marked.
--- Assumes nothing.
 use mathlib.Core.Path.{refl, ap}
 use Prim.Native.Nat.{◌+◌, ◌-◌}
 use native.Mathlib.Omega.{arith}

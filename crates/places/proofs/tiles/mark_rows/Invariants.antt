@@ -1,5 +1,4 @@
 -- `places::tiles::mark_rows` meets its contract: the rows so far are marked.
--- Assumes nothing.
 use mathlib.Core.List.{List, ◌++◌}
 use Prim.Native.Nat.{◌+◌, ◌-◌, ◌≤◌}
 use Rattle.index.specs.Index.{Contribution}

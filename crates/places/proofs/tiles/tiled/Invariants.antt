@@ -1,5 +1,4 @@
 -- `places::tiles::tiled` meets its contract: from here on the same comes out.
--- Assumes nothing.
 use mathlib.Core.Path.{◌≡◌}
 use lib.ListN.{drop}
 use Rattle.places.specs.Marks.{marks_good}

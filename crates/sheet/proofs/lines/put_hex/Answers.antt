@@ -1,5 +1,4 @@
 -- `sheet::lines::put_hex` meets its contract.
--- Assumes nothing.
 use mathlib.Core.Path.{◌≡◌, sym, ◌∙◌}
 use native.Mathlib.Omega.{arith}
 use lib.ListN.{length-set}

@@ -1,5 +1,4 @@
 -- `sheet::rows::all_marked` meets its contract.
--- Assumes nothing.
 use mathlib.Core.Path.{refl, ◌∙◌}
 use Prim.Native.Nat.{◌+◌}
 use native.Mathlib.Omega.{arith}

@@ -1,5 +1,4 @@
 -- `sheet::rows::section_of` meets its contract.
--- Assumes nothing.
 use mathlib.Core.Path.{◌≡◌, refl, ◌∙◌, ap}
 use mathlib.Core.List.{map}
 use borrow.Author.Tests.{tests}

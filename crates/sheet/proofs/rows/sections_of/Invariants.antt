@@ -1,5 +1,4 @@
 -- `sheet::rows::sections_of` meets its contract.
--- Assumes nothing.
 use mathlib.Core.Path.{◌≡◌}
 use lib.ListN.{length}
 use Rattle.sheet.specs.Held.{Sections}

@@ -1,5 +1,4 @@
 -- `sheet::tables::index_of` meets its contract.
--- Assumes nothing.
 use Rattle.sheet.proofs.LawTables.{there, table_here}
 use Rattle.sheet.proofs.tables.index_of.Goals as goal
 

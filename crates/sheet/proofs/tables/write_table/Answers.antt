@@ -1,5 +1,4 @@
 -- `sheet::tables::write_table` meets its contract.
--- Assumes nothing.
 use mathlib.Core.Path.{◌∙◌}
 use Rattle.sheet.proofs.LawTables.{table_laid}
 use Rattle.sheet.proofs.tables.write_table.Goals as goal

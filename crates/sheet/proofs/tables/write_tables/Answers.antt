@@ -1,5 +1,4 @@
 -- `sheet::tables::write_tables` meets its contract.
--- Assumes nothing.
 use Rattle.sheet.proofs.LawSheet.{second_fits}
 use Rattle.sheet.proofs.tables.write_tables.Goals as goal
 

@@ -1,5 +1,4 @@
 -- `write_strings` meets its contract. The loop: the strings of the rows passed are written.
--- Assumes nothing.
 use mathlib.Core.Path.{ap, ◌∙◌}
 use Prim.Native.Nat.{◌+◌, ◌*◌}
 use native.Mathlib.Omega.{arith}

@@ -1,5 +1,4 @@
 -- `write_strings` meets its contract. The loop: the strings of the rows passed are written.
--- Assumes nothing.
 use mathlib.Core.Path.{◌≡◌}
 use mathlib.Core.List.{List}
 use Prim.Native.Nat.{ℕ}

@@ -1,5 +1,4 @@
 -- `long_hash` meets its contract. The loop: the groups that are left give the hash from here on.
--- Assumes nothing.
 use mathlib.Core.Path.{◌≡◌}
 use Prim.Native.Nat.{◌-◌, ◌/◌, ◌<◌, ◌^◌}
 use lib.ListN.{length, drop}

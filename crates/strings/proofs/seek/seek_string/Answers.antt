@@ -1,5 +1,4 @@
 -- `seek_string` meets its contract. The loop: the rows passed are other strings', and links lead to later rows.
--- Assumes nothing.
 use native.Mathlib.Omega.{arith}
 use Rattle.strings.proofs.Hashing.{side_lt}
 use Rattle.strings.proofs.Holding.{search_none, search_free, few_steps, row_met, link_inside, search_found, search_more}

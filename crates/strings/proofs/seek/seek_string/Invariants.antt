@@ -1,5 +1,4 @@
 -- `seek_string` meets its contract. The loop: the rows passed are other strings', and links lead to later rows.
--- Assumes nothing.
 use Prim.Native.Nat.{◌-◌}
 use Rattle.strings.proofs.Holding.{Searching}
 use Rattle.strings.proofs.seek.seek_string.Given as goal

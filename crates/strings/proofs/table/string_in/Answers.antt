@@ -1,5 +1,4 @@
 -- `string_in` meets its contract.
--- Assumes nothing.
 use native.Mathlib.Omega.{arith}
 use Rattle.strings.proofs.Places.{string_start}
 use Rattle.strings.proofs.table.string_in.Goals as goal

@@ -1,5 +1,4 @@
 -- `unit::abbreviations::find_in` meets its contract.
--- Assumes nothing.
 use native.Mathlib.Omega.{arith}
 use Rattle.unit.proofs.Finding.{finds_none, heads, start_inside, finds_at}
 use Rattle.unit.proofs.abbreviations.find_in.Goals as goal

@@ -1,5 +1,4 @@
 -- `unit::abbreviations::judge_table` meets its contract.
--- Assumes nothing.
 use mathlib.Core.Path.{◌≡◌}
 use Prim.Native.Nat.{◌-◌}
 use lib.ListN.{length}

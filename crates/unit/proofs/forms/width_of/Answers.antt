@@ -1,5 +1,4 @@
 -- `unit::forms::width_of` meets its contract: the first form of the table that is asked for, and its width.
--- Assumes nothing.
 use mathlib.Core.Path.{◌≡◌, refl, ap, ◌∙◌}
 use mathlib.Core.List.{List, [], ◌∷◌, map}
 use Prim.Native.Nat.{ℕ}

@@ -1,5 +1,4 @@
 -- `unit::forms::zero_ended` meets its contract.
--- Assumes nothing.
 use mathlib.Core.Path.{◌≡◌, sym, ap, ◌∙◌}
 use lib.Dec.{eqb}
 use borrow.Author.Tests.{tests}

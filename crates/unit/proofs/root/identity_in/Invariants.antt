@@ -1,5 +1,4 @@
 -- `unit::root::identity_in` meets its contract.
--- Assumes nothing.
 use Prim.Native.Nat.{◌-◌}
 use Rattle.bundle.specs.Encoded.{encoding_is}
 use Rattle.unit.specs.TableTrees.{Lent}

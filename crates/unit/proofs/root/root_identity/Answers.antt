@@ -1,5 +1,4 @@
 -- `unit::root::root_identity` meets its contract.
--- Assumes nothing.
 use mathlib.Core.Path.{sym, ◌∙◌}
 use native.Mathlib.Omega.{arith}
 use Rattle.bundle.specs.Encoded.{encoding_is}

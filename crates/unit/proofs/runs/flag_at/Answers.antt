@@ -1,5 +1,4 @@
 -- `unit::runs::flag_at` meets its contract.
--- Assumes nothing.
 use Rattle.std.proofs.Common.{rules}
 use Rattle.octets.specs.Checked.{mapped}
 use Rattle.unit.proofs.Flags.{flag_passes}

@@ -1,5 +1,4 @@
 -- `unit::runs::run_size` meets its contract.
--- Assumes nothing.
 use Rattle.unit.proofs.Flags.{running_none, running_on}
 use Rattle.unit.proofs.runs.run_size.Goals as goal
 use Rattle.unit.proofs.runs.run_size.Goals.{In-Some}

@@ -1,5 +1,4 @@
 -- `unit::runs::run_size` meets its contract.
--- Assumes nothing.
 use Prim.Native.Nat.{◌-◌}
 use lib.ListN.{length}
 use Rattle.unit.proofs.Flags.{Running}

@@ -1,5 +1,4 @@
 -- `unit::tree::add_code` meets its contract.
--- Assumes nothing.
 use mathlib.Core.Path.{ap, ◌∙◌}
 use mathlib.Core.List.{List}
 use Prim.Native.Nat.{ℕ, ◌*◌}

@@ -1,5 +1,4 @@
 -- `elf::accepted::Accepted::open` meets its contract.
--- Assumes nothing.
 use Rattle.std.proofs.Common.{◌∙◌, ◌&&◌, List, ℕ, sym, ap}
 use Rattle.std.proofs.lemmas.Result.{err_from_is_err_and}
 use Rattle.octets.specs.Checked.{mapped}

@@ -1,5 +1,4 @@
 -- `elf::file::ElfFile::code_of` meets its contract.
--- Assumes nothing.
 use Rattle.std.proofs.Common.{◌∙◌, ap, arith}
 use Rattle.elf.specs.Held.{header_is, code_found}
 use Rattle.elf.proofs.Names.{code_behind, code_there}

@@ -1,5 +1,4 @@
 -- `elf::file::ElfFile::with_headers` meets its contract.
--- Assumes nothing.
 use Rattle.std.proofs.Common.{◌∙◌, ◌≡◌, ℕ, List, ap, sym, arith}
 use Rattle.std.proofs.Common.{None, Some}
 use Rattle.std.proofs.lemmas.Option.{MatchOption-at_some, MatchOption-at_none}

@@ -1,5 +1,4 @@
 -- `elf::file::Header::found_in` meets its contract.
--- Assumes nothing.
 use mathlib.Core.Logic.{⊎_elim}
 use Rattle.std.proofs.Common.{◌<◌, length, arith}
 use Rattle.elf.specs.Held.{header_is}

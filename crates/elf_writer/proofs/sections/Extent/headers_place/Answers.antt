@@ -1,5 +1,4 @@
 -- `elf_writer::sections::Extent::headers_place` meets its contract.
--- Assumes nothing.
 use native.Mathlib.Omega.{arith}
 use Rattle.elf.specs.Writer.{aligned}
 use Rattle.elf_writer.specs.Held.{headers_place}

@@ -1,5 +1,4 @@
 -- `elf_writer::sections::Sections::extended` meets its contract.
--- Assumes nothing.
 use mathlib.Core.Path.{refl, sym, ap, ◌∙◌}
 use native.Mathlib.Omega.{arith}
 use lib.ListN.{length}

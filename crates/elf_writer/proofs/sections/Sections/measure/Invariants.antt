@@ -1,5 +1,4 @@
 -- `elf_writer::sections::Sections::measure` meets its contract.
--- Assumes nothing.
 use Rattle.elf_writer.proofs.Loops.{Measuring}
 use Rattle.elf_writer.proofs.sections.Sections.measure.Given as goal
 

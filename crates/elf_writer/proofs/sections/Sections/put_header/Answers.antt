@@ -1,5 +1,4 @@
 -- `elf_writer::sections::Sections::put_header` meets its contract.
--- Assumes nothing.
 use mathlib.Core.Path.{sym, ap, ◌∙◌}
 use Prim.Native.Nat.{◌+◌}
 use native.Mathlib.Omega.{arith}

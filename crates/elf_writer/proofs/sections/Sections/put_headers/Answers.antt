@@ -1,5 +1,4 @@
 -- `elf_writer::sections::Sections::put_headers` meets its contract.
--- Assumes nothing.
 use mathlib.Core.Path.{ap, ◌∙◌}
 use native.Mathlib.Omega.{arith}
 use lib.ListN.{length}

@@ -1,5 +1,4 @@
 -- `elf_writer::sections::Sections::put_headers` meets its contract.
--- Assumes nothing.
 use Rattle.elf_writer.proofs.Headings.{Heading}
 use Rattle.elf_writer.proofs.sections.Sections.put_headers.Given as goal
 

@@ -1,5 +1,4 @@
 -- `abbreviations` meets its contract.
--- Assumes nothing.
 use mathlib.Core.Path.{sym, ◌∙◌}
 use Rattle.filing.proofs.Telling.{tells_exit}
 use Rattle.filing.proofs.ByPlace.{row_asks}

@@ -1,5 +1,4 @@
 -- `add_units` meets its contract. What the loop keeps is `Walking`, from the work in which the rows are chained, and what is transient.
--- Assumes nothing.
 use Prim.Native.Nat.{◌-◌}
 use Rattle.filing.specs.Asked.{Transient}
 use Rattle.filing.proofs.Walking.{Walking}

@@ -1,5 +1,4 @@
 -- `chain_rows` meets its contract.
--- Assumes nothing.
 use mathlib.Core.Path.{refl, sym, ◌∙◌}
 use Rattle.kept.specs.Regions.{rows_region}
 use Rattle.kept.proofs.RegionStores.{rows_within}

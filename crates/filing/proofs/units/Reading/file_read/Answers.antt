@@ -1,5 +1,4 @@
 -- `file_read` meets its contract.
--- Assumes nothing.
 use native.Mathlib.Omega.{arith}
 use Rattle.filing.proofs.Telling.{tells_exit}
 use Rattle.filing.proofs.Kept.{seek_asks, known_is, free_is, rows_held}

@@ -1,5 +1,4 @@
 -- `file_unit` meets its contract.
--- Assumes nothing.
 use Prim.Native.Nat.{◌-◌}
 use Rattle.octets.specs.Octets.{part}
 use Rattle.filing.proofs.Telling.{tells_exit}

@@ -1,5 +1,4 @@
 -- `read_at` meets its contract.
--- Assumes nothing.
 use mathlib.Core.Path.{refl, sym}
 use Rattle.filing.proofs.Telling.{told_exit}
 use Rattle.filing.proofs.Abbreviated.{read_headless, size_within, read_unabbreviated, read_unidentified, read_whole}

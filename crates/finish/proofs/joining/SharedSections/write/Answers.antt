@@ -1,5 +1,4 @@
 -- Each object's section is put behind those before it: `Sharing` is what the loop keeps.
--- Assumes nothing.
 use mathlib.Core.Path.{◌≡◌, refl, sym, ap, ◌∙◌}
 use mathlib.Core.Bool.{true}
 use mathlib.Core.List.{List}

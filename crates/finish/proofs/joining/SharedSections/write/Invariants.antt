@@ -1,5 +1,4 @@
 -- Each object's section is put behind those before it: `Sharing` is what the loop keeps.
--- Assumes nothing.
 use Rattle.std.proofs.Common.{◌≡◌, ◌-◌, length}
 use Rattle.bundle.specs.Encoded.{encoding_is}
 use Rattle.finish.specs.Joining.{SharedJoinable}

@@ -1,5 +1,4 @@
 -- Head, object word, sections, end.
--- Assumes nothing.
 use Rattle.finish.proofs.PackageSteps.{head_fits, object_fits, package_started, package_end, package_done}
 use Rattle.finish.proofs.writing.Package.write.Goals as goal
 

@@ -1,5 +1,4 @@
 -- Nothing for an empty section; else its word, its bytes, and the zeros that stand there.
--- Assumes nothing.
 use mathlib.Core.Path.{sym, ap, ◌∙◌}
 use Prim.Native.Nat.{ℕ, ◌+◌}
 use native.Mathlib.Omega.{arith}

@@ -1,5 +1,4 @@
 -- No rows, no index; else the index of the records and slots in work.
--- Assumes nothing.
 use native.Mathlib.Omega.{arith}
 use Rattle.finish.proofs.Steps.{no_index, index_few, index_seekable, index_asks, index_leaves}
 use Rattle.finish.proofs.writing.Package.write_index.Goals as goal

@@ -1,5 +1,4 @@
 -- The section of each code by its own function.
--- Assumes nothing.
 use Rattle.std.proofs.Common.{arith}
 use Rattle.finish.proofs.Dispatch.{units_few, units_asks, shared_asks, shared_put}
 use Rattle.finish.proofs.writing.Package.write_section.Goals as goal

@@ -1,5 +1,4 @@
 -- The sections before a code are written: `Writing` is what the loop keeps, for any sections that are ready.
--- Assumes nothing.
 use mathlib.Core.Path.{◌≡◌}
 use mathlib.Core.List.{List}
 use Prim.Native.Nat.{ℕ}

@@ -1,5 +1,4 @@
 -- `index::judging::Contributions::all_good` meets its contract.
--- Assumes nothing.
 use mathlib.Core.Path.{◌≡◌}
 use Rattle.octets.specs.Lists.{all}
 use Rattle.index.specs.Contributed.{by_code, good_held}

@@ -1,5 +1,4 @@
 -- `index::reading::Index::cell_at` meets its contract.
--- Assumes nothing.
 use native.Mathlib.Omega.{arith}
 use Rattle.index.proofs.Heads.{cell_inside, offsets_held, sizes_held}
 use Rattle.index.proofs.reading.Index.cell_at.Goals as goal

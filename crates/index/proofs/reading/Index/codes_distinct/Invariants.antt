@@ -1,5 +1,4 @@
 -- `index::reading::Index::codes_distinct` meets its contract.
--- Assumes nothing.
 use mathlib.Core.Path.{◌≡◌}
 use lib.ListN.{drop}
 use Rattle.octets.specs.Lists.{distinct}

@@ -1,5 +1,4 @@
 -- `index::reading::Index::find` meets its contract.
--- Assumes nothing.
 use mathlib.Core.Path.{sym, ap}
 use native.Mathlib.Omega.{arith}
 use native.Mathlib.Nat.{mod-lt}

@@ -1,5 +1,4 @@
 -- `index::reading::Index::find` meets its contract.
--- Assumes nothing.
 use mathlib.Core.Path.{◌≡◌}
 use Prim.Native.Nat.{◌-◌, ◌<◌}
 use Rattle.index.specs.Probing.{look, probe}

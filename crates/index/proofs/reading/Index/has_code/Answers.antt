@@ -1,5 +1,4 @@
 -- `index::reading::Index::has_code` meets its contract.
--- Assumes nothing.
 use mathlib.Core.Path.{◌∙◌}
 use Prim.Native.Nat.{◌-◌}
 use native.Mathlib.Omega.{arith}

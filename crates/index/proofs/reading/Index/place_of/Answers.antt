@@ -1,5 +1,4 @@
 -- `index::reading::Index::place_of` meets its contract.
--- Assumes nothing.
 use mathlib.Core.Path.{◌∙◌}
 use native.Mathlib.Omega.{arith}
 use borrow.Author.Tests.{tests}

@@ -1,5 +1,4 @@
 -- `index::reading::Index::slots_good` meets its contract.
--- Assumes nothing.
 use mathlib.Core.Path.{◌≡◌}
 use lib.ListN.{drop}
 use Rattle.index.specs.Index.{slots_good}

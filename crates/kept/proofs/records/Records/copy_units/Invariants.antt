@@ -1,5 +1,4 @@
 -- `kept::records::Records::copy_units` meets its contract: records that are left are still to be copied.
--- Assumes nothing.
 use Prim.Native.Nat.{◌-◌}
 use Rattle.kept.specs.Records.{bytes_from}
 use Rattle.kept.proofs.Copying.{Copying}

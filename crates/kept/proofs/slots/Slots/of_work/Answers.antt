@@ -1,5 +1,4 @@
 -- `kept::slots::Slots::of_work` meets its contract.
--- Assumes nothing.
 use mathlib.Core.Path.{◌≡◌, ap, ◌∙◌}
 use Rattle.kept.specs.Regions.{region, slots_region}
 use Rattle.kept.proofs.Placing.{lent_slots, lent_count}

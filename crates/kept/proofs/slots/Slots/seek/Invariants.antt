@@ -1,5 +1,4 @@
 -- `kept::slots::Slots::seek` meets its contract: the looks that are left decide the walk.
--- Assumes nothing.
 use Rattle.kept.proofs.Seeking.{Seeking}
 use Rattle.kept.proofs.slots.Slots.seek.Given as goal
 

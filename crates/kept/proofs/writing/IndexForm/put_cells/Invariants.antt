@@ -1,5 +1,4 @@
 -- `kept::writing::put_cells` meets its contract: numbers that are left are still to be put.
--- Assumes nothing.
 use Prim.Native.Nat.{◌-◌}
 use lib.ListN.{length}
 use Rattle.kept.specs.Columns.{columns_for, cells_from}

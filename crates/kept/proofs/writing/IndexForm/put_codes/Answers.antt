@@ -1,5 +1,4 @@
 -- `kept::writing::put_codes` meets its contract: codes that are left are still to be put.
--- Assumes nothing.
 use Rattle.kept.proofs.Numbering.{writing_start, codes_all, codes_more}
 use mathlib.Core.Path.{ap, ◌∙◌}
 use lib.ListN.{length}

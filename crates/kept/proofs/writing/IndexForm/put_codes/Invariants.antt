@@ -1,5 +1,4 @@
 -- `kept::writing::put_codes` meets its contract: codes that are left are still to be put.
--- Assumes nothing.
 use Prim.Native.Nat.{◌-◌}
 use Rattle.kept.specs.Columns.{codes_from, codes_in}
 use Rattle.kept.proofs.Numbering.{Writing}

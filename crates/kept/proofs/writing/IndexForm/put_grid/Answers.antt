@@ -1,5 +1,4 @@
 -- `kept::writing::put_grid` meets its contract: records that are left are still to be put.
--- Assumes nothing.
 use Rattle.kept.proofs.Pieces.{grid_more}
 use Rattle.kept.proofs.writing.IndexForm.put_grid.Goals as goal
 

@@ -1,5 +1,4 @@
 -- `kept::writing::put_grid` meets its contract: records that are left are still to be put.
--- Assumes nothing.
 use Prim.Native.Nat.{◌-◌}
 use Rattle.kept.specs.Indexed.{grid_from, place_of}
 use Rattle.kept.proofs.Numbering.{Writing}

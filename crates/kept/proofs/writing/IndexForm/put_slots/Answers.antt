@@ -1,5 +1,4 @@
 -- `kept::writing::put_slots` meets its contract: numbers that are left are still to be put.
--- Assumes nothing.
 use mathlib.Core.Path.{refl, ap, ◌∙◌}
 use native.Mathlib.Omega.{arith}
 use Rattle.kept.specs.Indexed.{slot_number}

@@ -1,5 +1,4 @@
 -- `kept::writing::put_slots` meets its contract: numbers that are left are still to be put.
--- Assumes nothing.
 use mathlib.Core.Path.{◌≡◌}
 use mathlib.Core.List.{map}
 use lib.ListN.{drop}

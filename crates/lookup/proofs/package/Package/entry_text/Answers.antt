@@ -1,5 +1,4 @@
 -- `lookup::package::Package::entry_text` meets its contract.
--- Assumes nothing.
 use mathlib.Core.Path.{◌∙◌}
 use Rattle.octets.specs.Checked.{mapped}
 use Rattle.lookup.specs.Answers.{placed}

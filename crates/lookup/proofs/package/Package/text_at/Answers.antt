@@ -1,5 +1,4 @@
 -- `lookup::package::Package::text_at` meets its contract.
--- Assumes nothing.
 use Rattle.lookup.proofs.Texts.{text_fits}
 use native.Mathlib.Omega.{arith}
 use mathlib.Core.Path.{refl}

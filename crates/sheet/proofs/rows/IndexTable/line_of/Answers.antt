@@ -1,5 +1,4 @@
 -- `sheet::rows::IndexTable::line_of` meets its contract.
--- Assumes nothing.
 use Rattle.sheet.proofs.LawIndex.{line_is}
 use Rattle.sheet.proofs.rows.IndexTable.line_of.Goals as goal
 

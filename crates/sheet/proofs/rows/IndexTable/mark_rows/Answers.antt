@@ -1,5 +1,4 @@
 -- `sheet::rows::IndexTable::mark_rows` meets its contract.
--- Assumes nothing.
 use mathlib.Core.Path.{◌≡◌, refl, sym, ap, ◌∙◌}
 use Prim.Native.Nat.{suc, ◌-◌, ◌/◌, ◌<◌}
 use native.Mathlib.Omega.{arith}

@@ -1,5 +1,4 @@
 -- `sheet::rows::IndexTable::mark_rows` meets its contract.
--- Assumes nothing.
 use mathlib.Core.Path.{◌≡◌}
 use lib.ListN.{length}
 use Rattle.sheet.proofs.LawSifted.{Sifted}

@@ -1,5 +1,4 @@
 -- `sheet::rows::IndexTable::put_row` meets its contract.
--- Assumes nothing.
 use mathlib.Core.Path.{◌≡◌}
 use Prim.Native.Nat.{◌+◌, ◌*◌, ◌-◌}
 use lib.ListN.{length, drop}

@@ -1,5 +1,4 @@
 -- `sheet::rows::IndexTable::put_rows` meets its contract.
--- Assumes nothing.
 use mathlib.Core.Path.{◌≡◌}
 use lib.ListN.{length}
 use Rattle.sheet.proofs.LawLaid.{laid_from}

@@ -1,5 +1,4 @@
 -- `write_pieces` meets its contract. The loop: the pieces ahead are to be written still, with the numbers that are left.
--- Assumes nothing.
 use mathlib.Core.List.{List}
 use Prim.Native.Nat.{ℕ, ◌-◌, ◌≤◌}
 use lib.ListN.{length}

@@ -1,5 +1,4 @@
 -- `add_entries` meets its contract. The loop: the strings of the entries passed are put, and remembered.
--- Assumes nothing.
 use mathlib.Core.Path.{◌≡◌}
 use mathlib.Core.List.{◌++◌}
 use native.Mathlib.Omega.{arith}

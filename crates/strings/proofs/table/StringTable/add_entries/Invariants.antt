@@ -1,5 +1,4 @@
 -- `add_entries` meets its contract. The loop: the strings of the entries passed are put, and remembered.
--- Assumes nothing.
 use mathlib.Core.List.{List}
 use Prim.Native.Nat.{ℕ, ◌+◌, ◌≤◌}
 use Rattle.strings.specs.Remembered.{Putting}

@@ -1,5 +1,4 @@
 -- `add_pieces` meets its contract.
--- Assumes nothing.
 use Rattle.strings.proofs.Remembering.{begun}
 use Rattle.strings.proofs.table.StringTable.add_pieces.Goals as goal
 

@@ -1,5 +1,4 @@
 -- `add_string` meets its contract.
--- Assumes nothing.
 use mathlib.Core.Path.{refl}
 use native.Mathlib.Omega.{arith}
 use Rattle.strings.proofs.Remembering.{string_passed, string_reached, string_room, string_none, known_noted, put_stored, put_over}

@@ -1,5 +1,4 @@
 -- `add_strings` meets its contract.
--- Assumes nothing.
 use Rattle.strings.proofs.Remembering.{begun}
 use Rattle.strings.proofs.Adding.{put_added}
 use Rattle.strings.proofs.table.StringTable.add_strings.Goals as goal

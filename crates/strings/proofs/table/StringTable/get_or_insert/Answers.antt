@@ -1,5 +1,4 @@
 -- `get_or_insert` meets its contract.
--- Assumes nothing.
 use mathlib.Core.Path.{refl}
 use native.Mathlib.Omega.{arith}
 use Rattle.strings.proofs.Keeping.{put_nothing, found_row, found_put, found_small}

@@ -1,5 +1,4 @@
 -- `put_pieces` meets its contract. The loop: the strings of the pieces passed are put, and those ahead are headed.
--- Assumes nothing.
 use Prim.Native.Nat.{◌+◌, ◌≤◌}
 use native.Mathlib.Omega.{arith}
 use mathlib.Core.List.{◌++◌}

@@ -1,5 +1,4 @@
 -- `put_pieces` meets its contract. The loop: the strings of the pieces passed are put, and those ahead are headed.
--- Assumes nothing.
 use mathlib.Core.List.{List}
 use Prim.Native.Nat.{ℕ, ◌+◌, ◌*◌, ◌-◌, ◌≤◌}
 use Rattle.bundle.specs.Encoded.{encoding_is}

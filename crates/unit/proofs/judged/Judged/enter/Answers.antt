@@ -1,5 +1,4 @@
 -- `unit::judged::Judged::enter` meets its contract.
--- Assumes nothing.
 use mathlib.Core.Path.{refl, ap, ◌∙◌}
 use Prim.Native.Nat.{◌+◌, ◌^◌, ◌<◌, ◌≤◌}
 use native.Mathlib.Omega.{arith}

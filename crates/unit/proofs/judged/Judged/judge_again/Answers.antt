@@ -1,5 +1,4 @@
 -- `unit::judged::Judged::judge_again` meets its contract.
--- Assumes nothing.
 use Rattle.unit.proofs.Holding.{lent_kept}
 use Rattle.unit.proofs.Recalling.{joined_not, fresh_none}
 use Rattle.unit.proofs.judged.Judged.judge_again.Goals as goal

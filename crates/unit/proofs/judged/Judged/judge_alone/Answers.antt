@@ -1,5 +1,4 @@
 -- `unit::judged::Judged::judge_alone` meets its contract.
--- Assumes nothing.
 use Rattle.unit.proofs.Recalling.{recalled_alone}
 use Rattle.unit.proofs.judged.Judged.judge_alone.Goals as goal
 

@@ -1,5 +1,4 @@
 -- `unit::judged::Judged::judge_behind` meets its contract.
--- Assumes nothing.
 use mathlib.Core.Path.{refl}
 use Rattle.unit.proofs.Entering.{behind_enters, behind_requires}
 use Rattle.unit.proofs.Recalling.{judged_own, judged_bad, full_bad, knows_part}

@@ -1,5 +1,4 @@
 -- `unit::judged::Judged::known` meets its contract.
--- Assumes nothing.
 use mathlib.Core.Path.{refl}
 use Rattle.unit.proofs.Recalling.{last_held, sought_held}
 use Rattle.unit.proofs.judged.Judged.known.Goals as goal

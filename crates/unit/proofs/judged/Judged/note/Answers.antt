@@ -1,5 +1,4 @@
 -- `unit::judged::Judged::note` meets its contract.
--- Assumes nothing.
 use Rattle.unit.proofs.Noting.{run_more}
 use Rattle.unit.proofs.judged.Judged.note.Goals as goal
 

@@ -1,5 +1,4 @@
 -- `unit::judged::Judged::pass_run` meets its contract.
--- Assumes nothing.
 use Rattle.unit.proofs.Holding.{lent_kept}
 use Rattle.unit.proofs.Noting.{run_found, run_notes}
 use Rattle.unit.proofs.judged.Judged.pass_run.Goals as goal

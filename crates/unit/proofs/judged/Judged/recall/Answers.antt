@@ -1,5 +1,4 @@
 -- `unit::judged::Judged::recall` meets its contract.
--- Assumes nothing.
 use native.Mathlib.Omega.{arith}
 use Rattle.unit.proofs.Recalling.{known_none, recalled_known}
 use Rattle.unit.proofs.judged.Judged.recall.Goals as goal

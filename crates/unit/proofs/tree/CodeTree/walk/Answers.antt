@@ -1,5 +1,4 @@
 -- `unit::tree::CodeTree::walk` meets its contract.
--- Assumes nothing.
 use mathlib.Core.Path.{refl, sym, ◌∙◌}
 use Rattle.unit.proofs.Trees.{walking_at, walking_on}
 use Rattle.unit.proofs.tree.CodeTree.walk.Goals as goal

@@ -1,5 +1,4 @@
 -- `unit::tree::CodeTree::walk` meets its contract.
--- Assumes nothing.
 use Prim.Native.Nat.{◌-◌}
 use Rattle.unit.proofs.Trees.{Walking}
 use Rattle.unit.proofs.tree.CodeTree.walk.Given as goal
