@@ -31,6 +31,7 @@ use Rattle.package.specs.Pack.{handed_in}
 use Rattle.package.proofs.Accepted.{Accepted, handed_in_law}
 use Rattle.archive.specs.Contributing.{IsShared, StandsAt, Contributes}
 use Rattle.archive.specs.Theorem.{WhatItContributes}
+use Rattle.std.specs.Prelude.{if◌then◌else◌}
 
 -- ---- codes
 -- its codes count from 3 on
@@ -113,10 +114,10 @@ row_passed x width n identity home at size g q =
       nothing = λ c p. sym (ap (λ (f : BySection (Option Contribution)). f c) is) ∙ other row.0 c p;
     }
   where
-    here : (row c : ℕ) → has (needed_codes n) c ≡ true → (elim (has (needed_codes n) c) as (λ b. Option Contribution) [ true ↦ cell_of x row c | false ↦ none ]) ≡ cell_of x row c
+    here : (row c : ℕ) → has (needed_codes n) c ≡ true → (if has (needed_codes n) c then cell_of x row c else none) ≡ cell_of x row c
     here row c p = rw p refl
 
-    other : (row c : ℕ) → has (needed_codes n) c ≡ false → (elim (has (needed_codes n) c) as (λ b. Option Contribution) [ true ↦ cell_of x row c | false ↦ none ]) ≡ none
+    other : (row c : ℕ) → has (needed_codes n) c ≡ false → (if has (needed_codes n) c then cell_of x row c else none) ≡ none
     other row c p = rw p refl
 
 whole_is : (n : BySection ℕ) (c : ℕ) → has (needed_codes n) c ≡ true → whole_contributions n c ≡ some (record { offset = 0; size = n c })

@@ -1,5 +1,5 @@
 -- Every clause of the theorem, used of one small bundle: what it says there, worked out.
-use Rattle.std.specs.Prelude.{◌≡◌, ◌⊎◌, true, false, List, [], ◌∷◌, ℕ, ◌+◌, ◌≤◌, ◌<◌, length, get_or}
+use Rattle.std.specs.Prelude.{◌≡◌, ◌⊎◌, true, false, List, [], ◌∷◌, ℕ, ◌+◌, ◌≤◌, ◌<◌, length, get_or, if◌then◌else◌}
 use Rattle.std.proofs.Math.Option.{Option, some, none}
 use Rattle.numbers.specs.Refusals.{other_version, no_entry}
 use Rattle.octets.specs.Octets.{numbers_of, part as bytes_at}
@@ -113,7 +113,7 @@ row_unit = record {
   home = 1;
   bytes = bytes_at four 12 20;
   input = row_object;
-  contributions = λ s. elim (has (needed_codes (lengths row_object)) s) [ true ↦ cell_of its_index 1 s | false ↦ none ];
+  contributions = λ s. if has (needed_codes (lengths row_object)) s then cell_of its_index 1 s else none;
   bases = λ c. 0;
 }
 
