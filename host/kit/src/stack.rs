@@ -5,7 +5,7 @@
 use crate::generate::{call, sized, Random, HOSTILE, KINDS, SHORT};
 use crate::reference::WORK_FOR_A_WORD;
 use barthovin::answer::Asked;
-use barthovin::{batch, elf, ffi, profile, sheet};
+use barthovin::{batch, elf, ffi, join, profile, sheet};
 use std::thread;
 
 const STACK: usize = 1 << 20;
@@ -13,17 +13,6 @@ const PAINTED: usize = 512 << 10;
 const PAINT: u8 = 0xC3;
 /// What the painter itself stands on is not painted: less is not told from it.
 const PAINTER: usize = 1 << 10;
-
-#[repr(C)]
-struct Written {
-    code: u32,
-    length: usize,
-}
-
-extern "C" {
-    fn barthovin_read_elf32(file: *const u8, length: usize, output: *mut u8, room: usize) -> Written;
-    fn barthovin_write_elf_for(p: *const u8, length: usize, machine: u32, output: *mut u8, room: usize) -> Written;
-}
 
 /// The bytes of stack that a call took; what Rust puts between is counted too, some hundred bytes at most.
 pub fn taken(call: impl FnOnce() + Send) -> usize {
@@ -143,15 +132,20 @@ impl Measured<'_> {
 }
 
 impl Measured<'_> {
-    /// Files of 32 bits, and of any machine.
+    /// Files of 32 bits and of any machine, opened and joined.
     fn files_of_others(&mut self, package: &[u8], file: &mut [u8], bundle: &mut [u8]) {
         const ARM: u32 = 40;
-        // Each entry reads and writes what it is lent, and nothing else.
-        self.note("barthovin_write_elf_for", || unsafe {
-            barthovin_write_elf_for(package.as_ptr(), package.len(), ARM, file.as_mut_ptr(), file.len());
+        self.note("barthovin_write_elf_for", || {
+            elf::write_for(package, ARM, file);
         });
-        self.note("barthovin_read_elf32", || unsafe {
-            barthovin_read_elf32(file.as_ptr(), file.len(), bundle.as_mut_ptr(), bundle.len());
+        self.note("barthovin_read_elf32", || {
+            elf::read_32(file, bundle);
+        });
+        self.note("barthovin_open", || {
+            join::open(file, bundle);
+        });
+        self.note("barthovin_join", || {
+            join::join(bundle, 0, package);
         });
     }
 }
