@@ -2,7 +2,8 @@
 //! name, and nothing is left that a later run trips over. Disks that are full, folders and files that may not be written, runs that are
 //! killed at any moment, and two runs at once; each over nothing, a file, one with two links, one behind a symbolic link, and one of another owner.
 //!
-//! `BARTHOVIN_FAULTS=10` makes ten times as many of what is random.
+//! Each test goes on for 40 seconds at most, as it does on a busy machine; `BARTHOVIN_FAULTS=10` makes ten times as many of what is random,
+//! however long that takes.
 
 mod common;
 
@@ -14,7 +15,7 @@ use std::os::unix::process::CommandExt;
 use std::path::PathBuf;
 use std::process::{Command, Output, Stdio};
 use std::thread::sleep;
-use std::time::Instant;
+use std::time::{Duration, Instant};
 
 const NOBODY: u32 = 65_534;
 
@@ -35,9 +36,26 @@ fn shapes() -> Vec<Shape> {
     shapes
 }
 
-/// How often what is random is done.
-fn times(count: usize) -> usize {
-    count * std::env::var("BARTHOVIN_FAULTS").ok().and_then(|times| times.parse().ok()).unwrap_or(1)
+/// How long a test goes on: on a busy machine it does less, but for who asks for more.
+struct Patience {
+    start: Instant,
+    asked: Option<usize>,
+}
+
+impl Patience {
+    fn new() -> Patience {
+        let asked = std::env::var("BARTHOVIN_FAULTS").ok().and_then(|times| times.parse().ok());
+        Patience { start: Instant::now(), asked }
+    }
+
+    fn lasts(&self) -> bool {
+        self.asked.is_some() || self.start.elapsed() < Duration::from_secs(40)
+    }
+
+    /// How often what is random is done.
+    fn times(&self, count: usize) -> impl Iterator<Item = usize> + '_ {
+        (0..count * self.asked.unwrap_or(1)).take_while(|_| self.lasts())
+    }
 }
 
 /// A bundle of one unit and so many bytes more.
@@ -371,11 +389,11 @@ impl Random {
 fn runs_that_are_killed() {
     let mut scenes = scenes("killed", [100_000, 300_000]);
     let mut random = Random(0x9E37_79B9_7F4A_7C15);
-    let start = Instant::now();
+    let patience = Patience::new();
     scenes.iter_mut().for_each(|scene| scene.can_be_done("before"));
-    let usual = start.elapsed() / scenes.len() as u32;
+    let usual = patience.start.elapsed() / scenes.len() as u32;
     let mut met = [0; 3];
-    for number in 0..times(200) {
+    for number in patience.times(200) {
         let count = scenes.len();
         let scene = &mut scenes[number % count];
         scene.lay();
@@ -413,11 +431,13 @@ fn injected(scene: &Scene, call: &str, what: &str, nth: usize) -> Option<Output>
 #[test]
 fn each_system_call() {
     let (mut kills, mut failures) = (0, 0);
+    let patience = Patience::new();
     for mut scene in scenes("calls", [3_000, 20_000]) {
         if matches!(scene.shape, Shape::Symbolic | Shape::OthersFile) || scene.is_refused() {
             continue;
         }
-        for (call, nth) in CALLS.iter().flat_map(|call| (1..9).map(move |nth| (call, nth))) {
+        let all = CALLS.iter().flat_map(|call| (1..9).map(move |nth| (call, nth)));
+        for (call, nth) in all.take_while(|_| patience.lasts()) {
             let about = format!("{call} {nth}, {:?} {:?}", scene.shape, scene.call);
             scene.lay();
             if injected(&scene, call, "signal=SIGKILL", nth).is_some() {
@@ -435,34 +455,50 @@ fn each_system_call() {
     println!("{kills} runs were killed at a system call, and in {failures} one failed");
 }
 
+/// Two calls that are run at once, and what there may be afterwards.
+struct Both {
+    scene: Scene,
+    calls: [String; 2],
+    wanted: Vec<Vec<u8>>,
+}
+
+impl Both {
+    fn of(scene: Scene) -> Both {
+        fs::write(scene.home.join("three"), bundle(3, 9_000)).unwrap();
+        let calls = [scene.call.words().to_string(), scene.call.words().replace("two", "three")];
+        let orders =
+            if scene.call == Call::Pack { ["one two", "one three"] } else { ["one two three", "one three two"] };
+        let made = |files: &&str| {
+            assert_eq!(status(&shell(&scene.home, &format!("$B pack {files} -o made"))), 0);
+            fs::read(scene.home.join("made")).unwrap()
+        };
+        let wanted = orders.iter().map(made).collect();
+        fs::remove_file(scene.home.join("made")).unwrap();
+        Both { scene, calls, wanted }
+    }
+
+    fn run(&mut self, first: usize) {
+        let scene = &mut self.scene;
+        scene.lay();
+        let start = |call: &String| command(&scene.home, &call.split(' ').collect::<Vec<_>>()).spawn().unwrap();
+        for run in [start(&self.calls[first]), start(&self.calls[1 - first])] {
+            let output = run.wait_with_output().unwrap();
+            assert!(status(&output) == 0 || scene.is_refused(), "{}", message(&output));
+        }
+        let about = format!("{:?} {:?}", scene.shape, scene.call);
+        assert!(scene.is_as_it_was(), "{about}");
+        let bytes = scene.bytes().unwrap();
+        assert!(if scene.is_refused() { bytes == scene.old } else { self.wanted.contains(&bytes) }, "{about}");
+        assert_eq!(scene.left(), [scene.home.join("three")], "{about}");
+    }
+}
+
 /// Two runs that write one output: it is what one of them writes. Two that add to it: all is there.
 #[test]
 fn two_runs_at_once() {
-    for mut scene in scenes("at-once", [3_000, 20_000]) {
-        fs::write(scene.home.join("three"), bundle(3, 9_000)).unwrap();
-        let calls = [scene.call.words().to_string(), scene.call.words().replace("two", "three")];
-        let made: Vec<Vec<u8>> = ["one two", "one three", "one two three", "one three two"]
-            .iter()
-            .map(|files| {
-                let output = shell(&scene.home, &format!("$B pack {files} -o made"));
-                assert_eq!(status(&output), 0);
-                fs::read(scene.home.join("made")).unwrap()
-            })
-            .collect();
-        fs::remove_file(scene.home.join("made")).unwrap();
-        let wanted = if scene.call == Call::Pack { &made[..2] } else { &made[2..] };
-        for round in 0..times(20) {
-            scene.lay();
-            let start = |call: &String| command(&scene.home, &call.split(' ').collect::<Vec<_>>()).spawn().unwrap();
-            for run in [start(&calls[round % 2]), start(&calls[1 - round % 2])] {
-                let output = run.wait_with_output().unwrap();
-                assert!(status(&output) == 0 || scene.is_refused(), "{}", message(&output));
-            }
-            let about = format!("{:?} {:?}", scene.shape, scene.call);
-            assert!(scene.is_as_it_was(), "{about}");
-            let bytes = scene.bytes().unwrap();
-            assert!(if scene.is_refused() { bytes == scene.old } else { wanted.contains(&bytes) }, "{about}");
-            assert_eq!(scene.left(), [scene.home.join("three")], "{about}");
-        }
+    let mut all: Vec<Both> = scenes("at-once", [3_000, 20_000]).into_iter().map(Both::of).collect();
+    let patience = Patience::new();
+    for round in patience.times(20) {
+        all.iter_mut().for_each(|both| both.run(round % 2));
     }
 }
