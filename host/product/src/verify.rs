@@ -20,6 +20,8 @@ pub struct Report {
     /// Of the bundle, and those of them that have no unit: nothing was looked for there.
     pub objects: usize,
     pub without_units: usize,
+    /// Of the package's indexes, by the version of the objects.
+    pub version: u32,
     pub units: usize,
     /// Type units whose signature was there before, in the same bytes and in others: of each signature the package has the first.
     pub skipped: Skipped,
@@ -85,7 +87,7 @@ pub fn verify(package: &[u8], bundle: &[u8]) -> Result<Report, String> {
         bundle,
         objects: &read.objects,
         version,
-        report: Report::default(),
+        report: Report { version, ..Report::default() },
         compared: HashSet::new(),
         strings: HashMap::new(),
     };

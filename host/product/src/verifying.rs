@@ -1,5 +1,8 @@
 //! A package verified against the bundle of its files, by the proved entry.
 
+/// The package answers otherwise.
+pub const NOT_VERIFIED: u32 = 46;
+
 /// Code 0: it answers with all that was handed in. 46: it answers otherwise at that place. 21: it is no package. Else packing's refusal of the
 /// bundle, with the length needed at 18.
 #[repr(C)]

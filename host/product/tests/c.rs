@@ -48,7 +48,11 @@ fn the_example_in_c_joins_and_packs() {
     let [main, race, other] = [file("gcc-5-main"), file("gcc-5-race"), file("clang-5be-race")];
     let output = compiled(&source, &["-std=c99"], &[&main, &race]);
     let package = PathBuf::from(env!("CARGO_TARGET_TMPDIR")).join("joined-by-the-command");
-    let packed = Command::new(env!("CARGO_BIN_EXE_barthovin")).args(["pack", &main, &race, "--force", "-o"]).arg(&package).output().unwrap();
+    let packed = Command::new(env!("CARGO_BIN_EXE_barthovin"))
+        .args(["pack", &main, &race, "--force", "-o"])
+        .arg(&package)
+        .output()
+        .unwrap();
     assert!(packed.status.success(), "{}", String::from_utf8_lossy(&packed.stderr));
     let length = std::fs::metadata(&package).unwrap().len();
     assert!(text(&output).ends_with(&format!(", a package of {length} bytes\n")), "{}, {length}", text(&output));

@@ -118,10 +118,7 @@ fn every_refusal_has_its_rule_and_its_definition() {
     let numbers = files.map(|name| read(&format!("crates/{name}"))).concat();
     let of_code = |line: &str| line.split_once(" = ").and_then(|(_, number)| number.trim().parse().ok());
     let known: BTreeSet<u32> = numbers.lines().filter_map(of_code).collect();
-    assert_eq!(
-        told, known,
-        "the page's refusals are not those of the definitions"
-    );
+    assert_eq!(told, known, "the page's refusals are not those of the definitions");
     for (number, cell) in rows {
         let (mut file, mut named) = (String::new(), 0);
         for name in cell.split('`').skip(1).step_by(2) {

@@ -7,7 +7,8 @@ const FILES: &str = concat!(env!("CARGO_MANIFEST_DIR"), "/../../examples/real/fi
 
 /// A bundle's words, or none where they are broken.
 fn words_of(bundle: &[u8]) -> Option<(u32, Vec<u32>)> {
-    let words: Vec<u32> = bundle.chunks(4).map(|w| w.try_into().map(u32::from_le_bytes)).collect::<Result<_, _>>().ok()?;
+    let words: Vec<u32> =
+        bundle.chunks(4).map(|w| w.try_into().map(u32::from_le_bytes)).collect::<Result<_, _>>().ok()?;
     let [head, inner @ .., end] = &words[..] else { return None };
     let mut at = 0;
     while at < inner.len() {

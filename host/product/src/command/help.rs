@@ -62,7 +62,7 @@ Of type units with one signature the first is kept. How many were skipped is sai
 kept, and namesakes, which are usual, since each file counts its strings and abbreviations by itself. It is said on standard error where the package
 goes to standard output.
 
-Debuggers open a package of their program's machine. gdb up to 13 crashes on DWARF 5 packages of any maker: compile with -gdwarf-4 for it, or use lldb.
+Debuggers open a package of their program's machine. gdb 13.1 crashes on DWARF 5 packages, ours and llvm-dwp's: compile with -gdwarf-4 for it, or use lldb.
 Of gcc -g3 only -gdwarf-4 -gstrict-dwarf -g3 can be packed; -g2 leaves the macros out.
 
 With --add the package comes first and the files follow it. The result is, byte for byte, that of packing at once all files that the package was
@@ -103,8 +103,9 @@ PACKAGE is a file, as it is or as an ELF file (.dwp); FILE is what was packed in
 @LIST, as pack takes it, and not PACKAGE itself. One of them may be - for standard input. Parts are compared byte for byte and strings
 letter for letter where the proved lookups find them. Of type units with one signature the package has the first; the others are often in
 other bytes, since they count strings and abbreviations as their own file does. Of the files only the debug sections are compared, the
-rest is not in the package. How many files were read is said, and how many objects they have; where no unit was looked for, or a file has
-code or data besides, that is said, and it is to be kept.
+rest is not in the package. Then the files are packed again, and the proved comparison has to say that the package answers as theirs does;
+files that can't be packed together are to be kept. How many files were read is said, and how many objects they have; where no unit was
+looked for, or a file has code or data besides, that is said, and it is to be kept.
 
       --json      write the answer as a JSON object
   -h, --help      show this help and exit

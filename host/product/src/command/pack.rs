@@ -260,7 +260,7 @@ fn told(call: &Call, operands: &[OsString], earlier: Option<&Earlier>, joined: &
 
 /// What most packages of a bundle fit in. An index makes a package longer than its bundle, by less than a sixteenth where units have a kilobyte; strings and type
 /// units that are kept once make it shorter. What is lent is cleared, which takes time, so that a long bundle isn't lent twice its length.
-fn usual(bundle: usize) -> usize {
+pub fn usual(bundle: usize) -> usize {
     match bundle < LONG {
         true => 2 * bundle,
         false => bundle + bundle / 16,

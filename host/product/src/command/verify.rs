@@ -2,9 +2,14 @@
 
 use super::call::{Call, Known};
 use super::files::{good_package, join, listed, not_a_bundle, Joined};
+use super::meaning::meaning;
+use super::pack::usual;
 use super::{guard, input, output, progress, show, Stop, DONE, NOT_DONE};
 use crate::ffi::Skipped;
-use crate::verify::{verify, Fault, Report};
+use crate::lent::Lent;
+use crate::names::{section_name, OUTPUT_TOO_SHORT, STR, WORK_FOR_A_WORD};
+use crate::verify::{verify, Fault, Report, Unit};
+use crate::verifying::{self, Verified, NOT_VERIFIED};
 use std::ffi::OsString;
 
 const OPTIONS: [Known; 1] = [Known { long: "json", short: None, value: false }];
@@ -26,18 +31,19 @@ pub fn run(arguments: &[OsString]) -> Result<u8, Stop> {
         let told = "it is the package itself, which is no copy of it: name the files that were packed";
         return Err(Stop::Trouble(format!("{}: {told}", input::shown(file))));
     }
-    let package = good_package(&call, name)?.bytes;
+    let package_bytes = good_package(&call, name)?.bytes;
     let joined = join(&call, None, &files)?;
     joined.note_left_out(files.len());
     let about = format!("looking for {} in the package", show::count(files.len(), "file"));
-    let report = progress::shown(about, || verify(&package, &joined.bundle));
+    let report = progress::shown(about, || verify(&package_bytes, &joined.bundle));
     // Several files were taken apart when they were joined.
     let report = report.map_err(|_| not_a_bundle(&call, &input::shown(&files[0]), &joined.bundle))?;
     let faults = report.faults.iter().map(|fault| named(fault, &joined, &files));
     let faults: Vec<(String, String)> = faults.chain(joined.uncarried.faults()).collect();
     let verified = faults.is_empty() && report.units > 0;
     if call.has("json") {
-        output::print(&json(&report, files.len(), &joined.with_code, &faults))?;
+        let verified = verified && proved(&package_bytes, &joined, report.version).code == 0;
+        output::print(&json(&report, files.len(), &joined.with_code, verified, &faults))?;
         return Ok(if verified { DONE } else { NOT_DONE });
     }
     let package = input::shown(name);
@@ -49,7 +55,53 @@ pub fn run(arguments: &[OsString]) -> Result<u8, Stop> {
         let told = format!("{package}: not verified: {read}: no unit was looked for: keep the files");
         return Err(Stop::Refused(told));
     }
+    let proved =
+        progress::shown("packing again, and comparing".to_string(), || proved(&package_bytes, &joined, report.version));
+    if let Some(why) = why_not(proved) {
+        return Err(Stop::Refused(format!(
+            "{package}: not verified: {read}: {}; but {why}: keep the files",
+            found(&report)
+        )));
+    }
     output::print(&format!("{read}: {}; {}", found(&report), may_go(files.len(), &joined.with_code)))
+}
+
+/// The proved function's word: the files are packed again, and the package has to answer as theirs does.
+fn proved(package: &[u8], joined: &Joined, version: u32) -> Verified {
+    let bundle = &joined.bundle;
+    let mut work = Lent::zeros(bundle.len() / 4 * WORK_FOR_A_WORD);
+    let mut output = Lent::zeros(usual(bundle.len()));
+    let told = verifying::verify(bundle, (&mut work, &mut output), package, version);
+    if told.code != OUTPUT_TOO_SHORT {
+        return told;
+    }
+    output = Lent::zeros(told.length);
+    verifying::verify(bundle, (&mut work, &mut output), package, version)
+}
+
+/// Why the proved function doesn't say yes.
+fn why_not(told: Verified) -> Option<String> {
+    match told.code {
+        0 => None,
+        NOT_VERIFIED if told.section == 0 => {
+            Some("the package states another byte order, version or width".to_string())
+        }
+        NOT_VERIFIED => {
+            let unit = Unit { table: told.table, identity: told.identity };
+            Some(format!("{unit} is answered otherwise at {}, by the proved comparison", place(told)))
+        }
+        number => Some(format!(
+            "the proved comparison packs the files again, and that is refused by {number} ({})",
+            meaning(number)
+        )),
+    }
+}
+
+fn place(told: Verified) -> String {
+    match told.section {
+        STR => format!("the string of entry {}", told.entry),
+        section => section_name(section).to_string(),
+    }
 }
 
 /// A fault's file and what is wrong there.
@@ -99,12 +151,11 @@ fn not_found(package: &str, report: &Report, faults: &[(String, String)]) -> Str
     told + "\nbarthovin: keep the files"
 }
 
-fn json(report: &Report, files: usize, with_code: &[String], faults: &[(String, String)]) -> String {
+fn json(report: &Report, files: usize, with_code: &[String], verified: bool, faults: &[(String, String)]) -> String {
     let fault =
         |(file, what): &(String, String)| format!("{{\"file\":{},\"what\":{}}}", show::json(file), show::json(what));
     let faults: Vec<String> = faults.iter().map(fault).collect();
     let with_code: Vec<String> = with_code.iter().map(|file| show::json(file)).collect();
-    let verified = faults.is_empty() && report.units > 0;
     let Report { objects, units, skipped: Skipped { repeats, namesakes }, strings, .. } = report;
     let counts = format!("\"units\":{units},\"repeats\":{repeats},\"namesakes\":{namesakes},\"strings\":{strings}");
     format!(
