@@ -84,6 +84,10 @@ int main(void) {
     printf("profile %u %u\n", (unsigned)barthovin_archive_profile(output, packed.length),
            (unsigned)barthovin_archive_profile(output, packed.length - 4));
     /* The second bundle behind the first, in memory that is too short, long enough, and of a length that it hasn't. */
+    show_verified(barthovin_verify(bundle, sizeof words, work, 20 * 17, packed_again, 1000, output, packed.length, 5));
+    output[60] ^= 1; /* a letter of its string */
+    show_verified(barthovin_verify(bundle, sizeof words, work, 20 * 17, packed_again, 1000, output, packed.length, 5));
+    show_verified(barthovin_verify(bundle, sizeof words, work, 20 * 17, packed_again, 10, output, packed.length, 5));
     struct barthovin_written joined = barthovin_join(output, 1000, 0, bundle, sizeof words);
     printf("join %u %zu\n", (unsigned)joined.code, joined.length);
     joined = barthovin_join(output, 100, joined.length, (const uint8_t *)skipped, sizeof skipped);
@@ -97,9 +101,5 @@ int main(void) {
     joined = barthovin_open(bundle, sizeof words, page, sizeof page);
     printf("open %u %zu\n", (unsigned)joined.code, joined.length);
     printf("conditions %u\n", (unsigned)barthovin_archive_profile_conditions(bundle, sizeof words).failed);
-    show_verified(barthovin_verify(bundle, sizeof words, work, 20 * 17, packed_again, 1000, output, packed.length, 5));
-    output[60] ^= 1; /* a letter of its string */
-    show_verified(barthovin_verify(bundle, sizeof words, work, 20 * 17, packed_again, 1000, output, packed.length, 5));
-    show_verified(barthovin_verify(bundle, sizeof words, work, 20 * 17, packed_again, 10, output, packed.length, 5));
     return 0;
 }

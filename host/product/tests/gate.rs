@@ -92,6 +92,11 @@ fn laid_out(name: &str) -> Home {
     for file in ["Makefile", "crates.txt", "tools/prove.mk", "tools/laws.txt", "tools/laws-proved"] {
         fs::copy(format!("{ROOT}/{file}"), home.join(file)).unwrap();
     }
+    // The clauses of the laws are read from the sources.
+    for laws in ["archive", "join", "archive_tables"].map(|name| format!("crates/{name}/src/laws.rt")) {
+        fs::create_dir_all(home.join(&laws).parent().unwrap()).unwrap();
+        fs::copy(format!("{ROOT}/{laws}"), home.join(&laws)).unwrap();
+    }
     for (tool, script) in [("rt", CHECKER), ("cargo", CARGO)] {
         fs::write(home.join("tools").join(tool), script).unwrap();
         fs::set_permissions(home.join("tools").join(tool), Permissions::from_mode(0o755)).unwrap();

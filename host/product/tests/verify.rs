@@ -164,9 +164,14 @@ fn the_package_is_no_copy_of_itself() {
         assert_eq!(text(&output), "", "{call}");
     }
     // Another file of the same bytes is a copy.
-    let output = run_in(&home, &["verify", "package", "copy", "file"], &[]);
-    let told = "2 files, 2 objects: 2 units, 0 strings: all found; the files may be deleted\n";
+    let output = run_in(&home, &["verify", "package", "copy"], &[]);
+    let told = "1 file, 1 object: 1 unit, 0 strings: all found; the files may be deleted\n";
     assert_eq!((text(&output).as_str(), message(&output).as_str(), status(&output)), (told, "", 0));
+    // Files that can't be packed together, here one unit twice, are nothing that the proved comparison says yes of.
+    let output = run_in(&home, &["verify", "package", "copy", "file"], &[]);
+    assert!(message(&output)
+        .contains("all found; but the proved comparison packs the files again, and that is refused by 14 "));
+    assert!(message(&output).ends_with(": keep the files\n") && status(&output) == 1, "{}", message(&output));
 }
 
 /// An object file that was not split, as `-gsplit-dwarf=single` makes it, has what the program is made of beside its debug sections.
@@ -174,13 +179,14 @@ fn the_package_is_no_copy_of_itself() {
 fn a_file_with_code_is_kept() {
     let home = directory("with-code");
     let files = files(5, false);
-    let mut object = fs::read(&files[0]).unwrap();
-    let field = |at: usize, width: usize| number(&object, at, width, false).unwrap() as usize;
     // The section of the sections' names gets the flag of those that are loaded.
-    let names = field(40, 8) + 64 * field(62, 2);
-    object[names + 8] |= 2;
-    fs::write(home.join("main.o"), &object).unwrap();
-    fs::write(home.join("other.o"), &object).unwrap();
+    for (file, name) in files.iter().zip(["main.o", "other.o"]) {
+        let mut object = fs::read(file).unwrap();
+        let field = |at: usize, width: usize| number(&object, at, width, false).unwrap() as usize;
+        let names = field(40, 8) + 64 * field(62, 2);
+        object[names + 8] |= 2;
+        fs::write(home.join(name), &object).unwrap();
+    }
     assert_eq!(status(&run_in(&home, &["pack", "main.o", &files[1], "-o", "package"], &[])), 0);
     let told = |files: &[&str], wanted: &str| {
         let output = run_in(&home, &[&["verify", "package"], files].concat(), &[]);
@@ -190,7 +196,7 @@ fn a_file_with_code_is_kept() {
     let rest = "; the other files may be deleted";
     told(&["main.o"], "main.o has code or data besides: keep it");
     told(&["main.o", &files[1]], &format!("main.o has code or data besides: keep it{rest}"));
-    told(&[&files[1], "main.o", "other.o"], &format!("main.o and other.o have code or data besides: keep them{rest}"));
+    told(&["main.o", "other.o"], "main.o and other.o have code or data besides: keep them");
     told(&[&files[1]], "the files may be deleted");
     let json = text(&run_in(&home, &["verify", "--json", "package", "main.o", &files[1]], &[]));
     assert!(json.contains(",\"with_code\":[\"main.o\"],\"faults\":[]}"), "{json}");

@@ -112,9 +112,17 @@ pub fn no_package(call: &Call, name: &OsStr, bytes: &[u8]) -> Stop {
 
 /// The bundle of an ELF file.
 pub fn from_elf(call: &Call, file: &[u8], shown: &str) -> Result<Lent<u8>, Stop> {
-    let mut bundle = Lent::zeros(0);
-    let read = join_to(&mut bundle, file);
-    read.map(|()| bundle).map_err(|number| refused_call(call, shown, number, explain::reading_elf(file, number)))
+    let mut bundle = Lent::zeros(file.len().min(LONGEST_BUNDLE));
+    let (mut code, mut length) = elf::read_either(file, &mut bundle);
+    if code == OUTPUT_TOO_SHORT {
+        bundle = Lent::zeros(length);
+        (code, length) = elf::read_either(file, &mut bundle);
+    }
+    if code != 0 {
+        return Err(refused_call(call, shown, code, explain::reading_elf(file, code)));
+    }
+    bundle.truncate(length);
+    Ok(bundle)
 }
 
 /// Joins a file's objects to a bundle, which is empty where none was joined so far, or the refusal's number; then the bundle is as it was. Few files add
