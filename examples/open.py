@@ -7,7 +7,7 @@
     open.py PACKAGE TABLE IDENTITY string ENTRY   write one of its strings; entries count from 0
     open.py --answer < QUESTIONS                  answer lines: lookup|string PACKAGE VERSION TABLE IDENTITY CODE|ENTRY
 
-PACKAGE is a bundle or an ELF64 file (.dwp), TABLE cu or tu (or 1, 2), IDENTITY hexadecimal, CODE a name such as info
+PACKAGE is a bundle or an ELF file (.dwp), TABLE cu or tu (or 1, 2), IDENTITY hexadecimal, CODE a name such as info
 (or a number). In a question PACKAGE is a bundle in hexadecimal digits (- for none), and numbers are decimal, or
 hexadecimal after 0x. The answers: refused N (FORMAT.md's number), absent LOOKS, part START LENGTH LOOKS.
 Exit status: 0 done or found, 1 absent or refused, 2 wrong call or a file that can't be read.
@@ -18,6 +18,8 @@ TABLES = [None, "cu", "tu"]  # a table's code is its place in this list, and so 
 NAMES = [None] + "info types abbrev line loc str_offsets macinfo macro loclists rnglists str cu_index tu_index".split()
 ELF_NAMES = [None] + [".debug_" + name + ("" if "index" in name else ".dwo") for name in NAMES[1:]]
 INFO, STR_OFFSETS, STR = 1, 6, 11  # the index of table 1 is section 12, that of table 2 is 13
+# Of an ELF file's header the length and the fields, and the same of its section headers, for 32 and for 64 bits
+CLASSES = {1: (52, "H14xI10xHHH", 40, "III4xII4xI"), 2: (64, "H22xQ10xHHH", 64, "IIQ8xQQ4xI")}
 COLUMNS = {2: {n: n for n in range(1, 9)}, 5: {1: 1, 3: 3, 4: 4, 9: 5, 10: 8, 6: 6, 8: 7}}  # form: section: column
 
 class Stop(Exception):
@@ -45,13 +47,14 @@ def read_bundle(data):
     return "<>"[data[0]], width, sections
 
 def read_elf(data):
-    """The sections of an ELF64 file. The first unit of info tells how wide offsets are."""
-    need(len(data) >= 64 and data[4] == 2 and data[5] in (1, 2), 31)
-    order, found = "<>"[data[5] - 1], []
-    kind, table, entry, count, names_at = struct.unpack_from(order + "H22xQ10xHHH", data, 16)
-    need(kind == 1 and entry == 64 and names_at < count and table + 64 * count <= len(data), 31)
+    """The sections of an ELF file. The first unit of info tells how wide offsets are."""
+    need(len(data) > 5 and data[4] in CLASSES and data[5] in (1, 2), 31)
+    (shortest, fields, length, header_fields), order, found = CLASSES[data[4]], "<>"[data[5] - 1], []
+    need(len(data) >= shortest, 31)
+    kind, table, entry, count, names_at = struct.unpack_from(order + fields, data, 16)
+    need(kind == 1 and entry == length and names_at < count and table + length * count <= len(data), 31)
     # Of a section header: name, type, flags, where its bytes start, how many there are, a relocation's target
-    headers = [struct.unpack_from(order + "IIQ8xQQ4xI", data, table + 64 * i) for i in range(count)]
+    headers = [struct.unpack_from(order + header_fields, data, table + length * i) for i in range(count)]
     targets = {header[5] for header in headers if header[1] in (4, 9)}
     names_at, names_end = headers[names_at][3], sum(headers[names_at][3:5])
     for i, (name, kind, flags, start, size, _) in enumerate(headers):

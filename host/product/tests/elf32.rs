@@ -5,6 +5,7 @@ mod common;
 use common::*;
 use std::fs;
 use std::path::Path;
+use std::process::Command;
 
 const FILES: &str = concat!(env!("CARGO_MANIFEST_DIR"), "/../../examples/real/files");
 
@@ -84,7 +85,7 @@ fn a_file_of_32_bits_is_read_as_one_of_64() {
         write(&home, "short.dwo", &narrowed(&long, 62));
         for (command, form) in [("bundle", "bundle"), ("pack", "package")] {
             for class in ["long", "short"] {
-                done(&home, &[command, &format!("{class}.dwo"), "-o", &format!("{class}.{form}")]);
+                done(&home, &[command, &format!("{class}.dwo"), "-o", &format!("{class}.{form}"), "--force"]);
             }
             let read = |class: &str| fs::read(home.join(format!("{class}.{form}"))).unwrap();
             assert!(read("long") == read("short"), "{command} {name}");
@@ -92,13 +93,67 @@ fn a_file_of_32_bits_is_read_as_one_of_64() {
         let verified = done(&home, &["verify", "long.package", "short.dwo"]);
         assert!(verified.ends_with(": all found; the files may be deleted\n"), "{verified}");
         // As a package of another maker in an ELF32 file.
-        done(&home, &["pack", "long.dwo", "-o", "long.dwp"]);
+        done(&home, &["pack", "long.dwo", "-o", "long.dwp", "--force"]);
         let dwp = fs::read(home.join("long.dwp")).unwrap();
         write(&home, "short.dwp", &narrowed(&dwp, 40));
         for command in ["list", "sheet"] {
             assert_eq!(done(&home, &[command, "long.dwp"]), done(&home, &[command, "short.dwp"]));
         }
         assert!(done(&home, &["verify", "short.dwp", "short.dwo"]).contains(": all found"));
+    }
+}
+
+/// The script opens such packages as those of 64 bits, in both byte orders: sheet, list, parts and strings. It refuses what is cut off.
+#[test]
+fn the_script_opens_files_of_32_bits() {
+    let home = directory("elf32-script");
+    let script = concat!(env!("CARGO_MANIFEST_DIR"), "/../../examples/open.py");
+    let opened = |words: &[&str]| Command::new("python3").current_dir(&home).arg(script).args(words).output().ok();
+    if opened(&["none"]).is_none() {
+        println!("python3 is not at hand: the script is not tried");
+        return;
+    }
+    for name in ["gcc-5-race", "gcc-4-race", "clang-5t-driver", "clang-4be-race", "clang-5be-race"] {
+        done(&home, &["pack", &format!("{FILES}/{name}.dwo"), "-o", "long.dwp", "--force"]);
+        let short = narrowed(&fs::read(home.join("long.dwp")).unwrap(), 40);
+        write(&home, "short.dwp", &short);
+        let list = done(&home, &["list", "long.dwp"]);
+        let unit = list.lines().find_map(|line| line.strip_prefix("unit cu ")?.split(':').next()).unwrap();
+        let part = ["cu", unit, "section", "info"];
+        for call in [&[][..], &["sheet"], &part, &["cu", unit, "string", "0"]] {
+            let [long, short] = ["long.dwp", "short.dwp"].map(|name| opened(&[&[name], call].concat()).unwrap());
+            assert_eq!((message(&short), status(&short)), (String::new(), 0), "{name} {call:?}");
+            assert!(!short.stdout.is_empty() && short.stdout == long.stdout, "{name} {call:?}");
+        }
+        assert_eq!(text(&opened(&["short.dwp", "sheet"]).unwrap()), done(&home, &["sheet", "long.dwp"]));
+        let raw = run_in(&home, &[&["lookup", "--raw", "short.dwp"], &part[..]].concat(), &[]);
+        assert!(opened(&[&["short.dwp"], &part[..]].concat()).unwrap().stdout == raw.stdout, "{name}");
+        for length in [5, 51, 60, short.len() - 1] {
+            write(&home, "cut.dwp", &short[..length]);
+            let output = opened(&["cut.dwp", "sheet"]).unwrap();
+            assert_eq!((message(&output).as_str(), status(&output)), ("open.py: refused 31\n", 1), "{length}");
+        }
+    }
+}
+
+/// The places that OPENING.md has for such files lead to a section's name and bytes.
+#[test]
+fn the_page_finds_a_section_by_hand() {
+    let page = fs::read_to_string(concat!(env!("CARGO_MANIFEST_DIR"), "/../../docs/OPENING.md")).unwrap();
+    let told = page.split("In a file of 32 bits ").nth(1).unwrap().split("\n\n").next().unwrap();
+    let places: Vec<usize> =
+        told.split(" at ").skip(1).filter_map(|rest| rest.split(' ').next()?.parse().ok()).collect();
+    let [headers, count, names, name, place, length] = places[..] else { panic!("{places:?}") };
+    assert!(told.contains("A section header has\n40 bytes"));
+    for kind in ["gcc-5-race", "clang-4be-race"] {
+        let (long, bytes) = (file(kind), narrowed(&file(kind), 40));
+        let short = Fields { big: bytes[5] == 2, bytes };
+        let header = |number: usize| short.at(headers, 4) + 40 * number;
+        let table = short.at(header(short.at(names, 2)) + place, 4);
+        let is_called = |at: &usize| short.bytes[table + short.at(*at + name, 4)..].starts_with(b".debug_info.dwo\0");
+        let info = (0..short.at(count, 2)).map(header).find(is_called).unwrap();
+        let bytes = &short.bytes[short.at(info + place, 4)..][..short.at(info + length, 4)];
+        assert!(bytes.len() > 50 && long.windows(bytes.len()).any(|part| part == bytes), "{kind}");
     }
 }
 
@@ -113,7 +168,7 @@ fn real_files_are_packed_and_found() {
         let files: Vec<String> =
             files.map(|(compiler, stem)| format!("{folder}/{compiler}-{version}-{stem}.dwo")).collect();
         let files: Vec<&str> = files.iter().map(String::as_str).collect();
-        assert_eq!(done(&home, &[&["pack", "-o", "out.dwp"], &files[..]].concat()), "");
+        assert_eq!(done(&home, &[&["pack", "--force", "-o", "out.dwp"], &files[..]].concat()), "");
         assert_eq!(machine(&home, "out.dwp"), 40);
         let verified = done(&home, &[&["verify", "out.dwp"], &files[..]].concat());
         assert!(
@@ -227,7 +282,7 @@ fn the_machine_is_named() {
     write(&home, "none.dwo", &narrowed(&file("gcc-5-race"), 0));
     let usual = "written for machine 62 (x86-64), since no file says a machine: --machine names another\n";
     for name in ["none.dwo", EXAMPLE] {
-        assert_eq!(done(&home, &["pack", name, "-o", "new.dwp"]), usual);
+        assert_eq!(done(&home, &["pack", "--force", name, "-o", "new.dwp"]), usual);
         assert_eq!(machine(&home, "new.dwp"), 62);
         let json = done(&home, &["pack", name, "-o", "new.dwp", "--json"]);
         assert!(json.contains(",\"machine\":62,"), "{json}");
@@ -246,7 +301,7 @@ fn the_machine_is_named() {
         ("65535", 65_535),
     ];
     for (name, number) in named {
-        assert_eq!(done(&home, &["pack", EXAMPLE, "-o", "new.dwp", "--machine", name]), "");
+        assert_eq!(done(&home, &["pack", "--force", EXAMPLE, "-o", "new.dwp", "--machine", name]), "");
         assert_eq!(machine(&home, "new.dwp"), number);
     }
     let known = "x86-64, aarch64, arm, riscv64, riscv32, i386, powerpc, powerpc64, mips, or a number from 1 to 65535";

@@ -175,6 +175,40 @@ fn the_elf_file() {
     }
 }
 
+/// Where gcc and binutils are at hand: the identity in a package stands in the object file, and so in the program, where the page says.
+#[test]
+fn an_identity_is_found_in_the_program() {
+    let (home, text) = (directory("opening-program"), under(&page(), "Which identity?"));
+    assert!(
+        text.contains("In version 5 the skeleton is a unit of type 4, and the identity is its 8 bytes from byte 12 on")
+    );
+    assert!(text.contains("in version 4 it is the value of attribute 2131 (hexadecimal, `DW_AT_GNU_dwo_id`)"));
+    let source = format!("{ROOT}/examples/real/main.c");
+    for version in [4, 5] {
+        let script = format!(
+            "gcc -gdwarf-{version} -gsplit-dwarf -c '{source}' -o main.o && objcopy -O binary -j .debug_info --set-section-flags .debug_info=alloc main.o info \
+             && readelf --debug-dump=info main.o > told || exit 77
+             $B pack main.dwo -o package --force && $B list package | sed -n 's/^unit cu 0x\\([0-9a-f]*\\):.*/\\1/p'"
+        );
+        let output = shell(&home, &script);
+        if status(&output) == 77 {
+            return println!("gcc or binutils are not at hand: no program is made");
+        }
+        assert_eq!((message(&output), status(&output)), (String::new(), 0));
+        let identity = common::text(&output).trim().to_string();
+        let info = fs::read(home.join("info")).unwrap();
+        let told = fs::read_to_string(home.join("told")).unwrap();
+        let number = u64::from_str_radix(&identity, 16).unwrap();
+        match version {
+            5 => assert_eq!((info[6], &info[12..20]), (4, &number.to_le_bytes()[..])),
+            _ => {
+                let line = told.lines().find(|line| line.contains("DW_AT_GNU_dwo_id")).unwrap();
+                assert!(line.ends_with(&format!("0x{number:x}")), "{line}");
+            }
+        }
+    }
+}
+
 /// The script that the page names is as short as it says.
 #[test]
 fn the_script_is_short() {
