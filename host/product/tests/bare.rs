@@ -140,6 +140,34 @@ fn all_are_told_at_once() {
     assert!(!home.join("new").exists());
 }
 
+/// As JSON: the first number with its meaning, as where one is refused, and a list of all; a refusal without a number stands in the list alone.
+#[test]
+fn json_has_all_that_are_refused() {
+    let home = home("all-json");
+    fs::write(home.join("short"), &fs::read(real_file("gcc-5-main")).unwrap()[..40]).unwrap();
+    fs::copy(real_file("clang-5be-race"), home.join("big.dwo")).unwrap();
+    let json = |call: &[&str], code: i32| {
+        let output = run_in(&home, &[&["pack"], call, &["-o", "new", "--json"]].concat(), &[]);
+        assert_eq!((status(&output), text(&output).lines().count()), (code, 1), "{}", message(&output));
+        text(&output)
+    };
+    let thirty_one = "\"refused\":31,\"meaning\":\"this is no relocatable ELF file, or it is cut off\"";
+    let short = format!("{{\"file\":\"short\",{thirty_one},\"why\":\"it has 40 bytes and is cut off\"}}");
+    let order = "{\"file\":\"big.dwo\",\"why\":\"its byte order is not that of gcc-5-main.dwo\"}";
+    assert_eq!(json(&["gcc-5-main.dwo", "short"], 1), format!("{{{thirty_one}}}\n"));
+    assert_eq!(json(&["gcc-5-main.dwo", "big.dwo"], 1), format!("{{\"refusals\":[{order}]}}\n"));
+    let both = format!("{{{thirty_one},\"refusals\":[{order},{short}]}}\n");
+    assert_eq!(json(&["gcc-5-main.dwo", "big.dwo", "short"], 1), both);
+    // A file that can't be read is refused by no one; the packer's refusals are told by object.
+    assert_eq!(json(&["gcc-5-main.dwo", "missing", "short"], 2), format!("{{{thirty_one}}}\n"));
+    let fives = json(&["gcc-5-main.dwo", "gcc-4-main.dwo", "gcc-4-race.dwo"], 1);
+    assert!(fives.starts_with("{\"refused\":5,") && fives.matches("\"refused\":5,").count() == 3, "{fives}");
+    assert!(
+        fives.contains(",\"refusals\":[{\"file\":\"gcc-4-main.dwo\",")
+            && fives.contains(",{\"file\":\"gcc-4-race.dwo\",")
+    );
+}
+
 /// A file that packing refuses alone is told with the others, in the words that it gets alone.
 #[test]
 fn the_packers_refusals_are_told_at_once() {
@@ -186,5 +214,5 @@ fn what_is_not_packed_is_told() {
     // An object that has both its own sections and those of a .dwo file: what the linker takes is not lost.
     fs::write(home.join("single.o"), renamed(&real_file("gcc-5-race"), ".debug_line.dwo", ".debug_info\0\0\0\0"))
         .unwrap();
-    done(&home, &["pack", "single.o", "-o", "package"]);
+    done(&home, &["pack", "single.o", "-o", "single.package"]);
 }

@@ -50,6 +50,15 @@ impl Refusal {
         format!("{file}: {}", told.collect::<Vec<_>>().join(": "))
     }
 
+    /// As a JSON object.
+    fn json(&self) -> String {
+        let number =
+            self.number.map(|number| format!(",\"refused\":{number},\"meaning\":{}", show::json(meaning(number))));
+        let why = Some(&self.why).filter(|why| !why.is_empty()).map(|why| format!(",\"why\":{}", show::json(why)));
+        let more = [number, why].map(Option::unwrap_or_default).concat();
+        format!("{{\"file\":{}{more}}}", show::json(&self.file))
+    }
+
     pub fn stop(self, call: &Call) -> Stop {
         let mut refusals = Refusals::of(call, String::new());
         refusals.push(self);
@@ -63,18 +72,20 @@ pub struct Refusals<'c> {
     /// What it is a part of: so many files, or so many objects.
     all: String,
     lines: Vec<String>,
-    /// The first number, which is told as JSON too.
+    /// Each refusal as JSON, and the first number.
+    listed: Vec<String>,
     number: Option<u32>,
     is_trouble: bool,
 }
 
 impl<'c> Refusals<'c> {
     pub fn of(call: &'c Call, all: String) -> Refusals<'c> {
-        Refusals { call, all, lines: Vec::new(), number: None, is_trouble: false }
+        Refusals { call, all, lines: Vec::new(), listed: Vec::new(), number: None, is_trouble: false }
     }
 
     pub fn push(&mut self, refusal: Refusal) {
         self.number = self.number.or(refusal.number);
+        self.listed.push(refusal.json());
         self.lines.push(refusal.line());
     }
 
@@ -102,10 +113,10 @@ impl<'c> Refusals<'c> {
         Err(self.stop())
     }
 
-    /// A line for each; as JSON the first number stands on standard output too.
+    /// A line for each; as JSON they stand on standard output too.
     pub fn stop(mut self) -> Stop {
-        if let Some(number) = self.number.filter(|_| self.call.has("json")) {
-            if let Err(stop) = output::print(&show::refused_json(number)) {
+        if self.call.has("json") && !self.listed.is_empty() {
+            if let Err(stop) = output::print(&self.json()) {
                 return stop;
             }
         }
@@ -118,6 +129,15 @@ impl<'c> Refusals<'c> {
             Stop::Trouble(message)
         } else {
             Stop::Refused(message)
+        }
+    }
+    /// The first number with its meaning; a list of all where they are several, or the one has no number.
+    fn json(&self) -> String {
+        let all = format!("\"refusals\":[{}]", self.listed.join(","));
+        match self.number {
+            Some(number) if self.listed.len() == 1 => show::refused_json(number, ""),
+            Some(number) => show::refused_json(number, &format!(",{all}")),
+            None => format!("{{{all}}}"),
         }
     }
 }

@@ -95,6 +95,7 @@ pub fn absent(is_json: bool, looks: usize) -> String {
     }
 }
 
-pub fn refused_json(number: u32) -> String {
-    format!("{{\"refused\":{number},\"meaning\":{}}}", json(meaning(number)))
+/// A refusal as a JSON object, with more fields or none.
+pub fn refused_json(number: u32, more: &str) -> String {
+    format!("{{\"refused\":{number},\"meaning\":{}{more}}}", json(meaning(number)))
 }

@@ -85,7 +85,7 @@ fn told(call: &Call, package: &[u8], asked: Asked, found: Found) -> String {
             show::part(is_json, &package[start..start + length], start, looks, asked).replace('\n', ": ")
         }
         Found::Absent(looks) => show::absent(is_json, looks),
-        Found::Refused(number) if is_json => show::refused_json(number),
+        Found::Refused(number) if is_json => show::refused_json(number, ""),
         Found::Refused(number) => format!("refused {number}: {}", meaning(number)),
     }
 }
