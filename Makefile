@@ -105,7 +105,7 @@ pack-example: command
 real-files: command
 	examples/real/make-files target/real-files
 	@for kind in '4[-t]' '5[-t]' 4be 5be; do \
-	  echo "*-$$kind*.dwo"; \
+	  echo "*-$$kind*.dwo"; rm -f target/real-files/out.package; \
 	  $(barthovin) pack target/real-files/*-$$kind*.dwo -o target/real-files/out.package || exit 1; \
 	  $(barthovin) verify target/real-files/out.package target/real-files/*-$$kind*.dwo || exit 1; \
 	  $(barthovin) list target/real-files/out.package || exit 1; \
@@ -113,7 +113,7 @@ real-files: command
 	@command -v arm-none-eabi-gcc > /dev/null 2>&1 || { echo 'files of 32 bits: arm-none-eabi-gcc is not at hand'; exit 0; }; \
 	examples/real/make-files-32 target/real-files-32 || exit 1; \
 	for version in 4 5; do \
-	  echo "*-$$version-*.dwo of 32 bits"; \
+	  echo "*-$$version-*.dwo of 32 bits"; rm -f target/real-files-32/out.dwp; \
 	  $(barthovin) pack target/real-files-32/*-$$version-*.dwo -o target/real-files-32/out.dwp || exit 1; \
 	  $(barthovin) verify target/real-files-32/out.dwp target/real-files-32/*-$$version-*.dwo || exit 1; \
 	  $(barthovin) list target/real-files-32/out.dwp || exit 1; \

@@ -21,6 +21,7 @@ mod sheet;
 mod show;
 mod stop;
 mod streams;
+mod there;
 mod uncarried;
 mod verify;
 

@@ -20,5 +20,6 @@ pub mod reader;
 pub mod sheet;
 pub mod skipped;
 pub mod sum;
+pub mod units;
 pub mod verify;
 pub mod verifying;

@@ -270,7 +270,7 @@ fn the_package_is_never_written_in_place() {
     assert!(before.ino() != after.ino() && after.mode() == before.mode());
     assert_eq!(names(&home), ["all", "link", "package"]);
     // With a second link a new file can't take its place.
-    done(&home, &["pack", &main, "-o", "package"]);
+    done(&home, &["pack", &main, "-o", "package", "--force"]);
     fs::hard_link(home.join("package"), home.join("second")).unwrap();
     let wanted = "it was read, and no new file can take its place: name another output";
     let untouched = read(&home, "package");
@@ -361,7 +361,7 @@ fn a_killed_run_holds_nothing() {
     let (home, [main, race, other]) = to_be_added_to("add-killed");
     let mut first = adds_from_input(&home);
     let second = command(&home, &["pack", "--add", "package", &other, "-o", "package"]).spawn().unwrap();
-    let third = command(&home, &["pack", &main, &race, "-o", "package"]).spawn().unwrap();
+    let third = command(&home, &["pack", &main, &race, "-o", "package", "--force"]).spawn().unwrap();
     sleep(LONG);
     first.kill().unwrap();
     first.wait().unwrap();

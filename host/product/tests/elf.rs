@@ -21,7 +21,7 @@ fn real_files_are_packed_and_found() {
     for (version, big, count, types) in [(4, false, 6, 1), (5, false, 6, 1), (4, true, 1, 0), (5, true, 1, 0)] {
         let files = files(version, big);
         assert_eq!(files.len(), count);
-        let mut call = vec!["pack", "-o", "out"];
+        let mut call = vec!["pack", "--force", "-o", "out"];
         call.extend(files.iter().map(String::as_str));
         let output = run_in(&home, &call, &[]);
         assert_eq!((message(&output), status(&output)), (String::new(), 0));
@@ -218,8 +218,8 @@ fn a_dwp_is_taken_as_its_package() {
             assert_eq!((message(&output), status(&output)), (String::new(), 0));
             output.stdout
         };
-        with(&["-o", "out.dwp"]);
-        with(&["-o", "out"]);
+        with(&["--force", "-o", "out.dwp"]);
+        with(&["--force", "-o", "out"]);
         let file = fs::read(home.join("out.dwp")).unwrap();
         assert_eq!(file, with(&["--elf", "-o-"]));
         assert_eq!(file[18..20], fs::read(&files[0]).unwrap()[18..20]);

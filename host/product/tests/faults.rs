@@ -1,6 +1,8 @@
 //! The fault run: whatever goes wrong while a file is written, nothing that was there is lost, nothing half written stands under the output's
 //! name, and nothing is left that a later run trips over. Disks that are full, folders and files that may not be written, runs that are
 //! killed at any moment, and two runs at once; each over nothing, a file, one with two links, one behind a symbolic link, and one of another owner.
+//! A file with two links is copied over by `--force` alone. No system does that at once: who is killed in the middle of it has been told where the new bytes
+//! stand whole.
 //!
 //! Each test goes on for 40 seconds at most, as it does on a busy machine; `BARTHOVIN_FAULTS=10` makes ten times as many of what is random,
 //! however long that takes.
@@ -72,6 +74,7 @@ fn bundle(identity: u32, length: usize) -> Vec<u8> {
 enum Call {
     Pack,
     Add,
+    Force,
 }
 
 impl Call {
@@ -79,6 +82,7 @@ impl Call {
         match self {
             Call::Pack => "pack one two -o out",
             Call::Add => "pack --add out two -o out",
+            Call::Force => "pack --force one two -o out",
         }
     }
 }
@@ -174,15 +178,16 @@ impl Scene {
         assert_eq!(self.left(), [] as [PathBuf; 0], "{about}");
     }
 
-    /// Killed: the output is as it was, as it is to be, or with two links in the middle of the copying, the copy whole beside it. The next run
-    /// does what it is asked.
-    fn after_a_kill(&mut self, about: &str) -> usize {
+    /// Killed: the output is as it was or as it is to be. In the middle of copying over two links, which is forced, the copy stands whole beside it, and
+    /// the run has said where. The next run does what it is asked.
+    fn after_a_kill(&mut self, run: &Output, about: &str) -> usize {
         let old = self.before.as_ref().map(|_| self.old.clone());
         let left = self.left();
+        let is_told = |path: &PathBuf| self.is_copy(path) && message(run).contains(&path.display().to_string());
         let met = match self.bytes() {
             bytes if bytes == old => 0,
             bytes if bytes.as_ref() == Some(&self.new) => 1,
-            _ if self.shape == Shape::TwoLinks && left.iter().any(|path| self.is_copy(path)) => 2,
+            _ if (self.shape, self.call) == (Shape::TwoLinks, Call::Force) && left.iter().any(is_told) => 2,
             _ => panic!("{about}: half written"),
         };
         assert!(self.is_as_it_was() && left.iter().all(is_hidden), "{about}: {left:?}");
@@ -214,9 +219,19 @@ impl Scene {
         fs::read(path).is_ok_and(|bytes| bytes == self.new)
     }
 
-    /// A package that is added to is never written in place, so that a second link forbids it.
+    /// Nothing is written in place unless that is forced, so that a second link forbids it.
     fn is_refused(&self) -> bool {
-        (self.shape, self.call) == (Shape::TwoLinks, Call::Add)
+        self.shape == Shape::TwoLinks && self.call != Call::Force
+    }
+
+    /// What is said on standard error where all is well.
+    fn is_well_said(&self, told: &str) -> bool {
+        match self.call {
+            Call::Force => {
+                told.starts_with("barthovin: out: it has 2 links; it is copied over, ") && told.ends_with(".part\n")
+            }
+            _ => told.is_empty(),
+        }
     }
 
     /// The next run does what it is asked.
@@ -228,7 +243,7 @@ impl Scene {
             self.lay();
         }
         let output = shell(&self.home, &format!("$B {}", self.call.words()));
-        assert_eq!((message(&output), status(&output)), (String::new(), 0), "{about}");
+        assert!(self.is_well_said(&message(&output)) && status(&output) == 0, "{about}: {}", message(&output));
         assert!(self.bytes().as_ref() == Some(&self.new) && self.is_as_it_was(), "{about}: {:?}", self.shape);
     }
 }
@@ -238,11 +253,32 @@ fn is_hidden(path: &PathBuf) -> bool {
     path.file_name().unwrap().to_string_lossy().starts_with(".barthovin.")
 }
 
-/// Each shape and each call that goes with it.
+/// Each shape and each call that goes with it. What is forced goes as ever where a new file can take the output's place.
 fn scenes(name: &str, lengths: [usize; 2]) -> Vec<Scene> {
-    let both = |shape| [Call::Pack, Call::Add].map(|call| (shape, call));
-    let kinds = shapes().into_iter().flat_map(both).filter(|kind| *kind != (Shape::Nothing, Call::Add));
+    let all = |shape| [Call::Pack, Call::Add, Call::Force].map(|call| (shape, call));
+    let goes = |(shape, call): &(Shape, Call)| match call {
+        Call::Pack => true,
+        Call::Add => *shape != Shape::Nothing,
+        Call::Force => *shape == Shape::TwoLinks,
+    };
+    let kinds = shapes().into_iter().flat_map(all).filter(goes);
     kinds.map(|(shape, call)| Scene::new(name, shape, call, lengths)).collect()
+}
+
+/// What is said of a file with two links.
+fn links(scene: &Scene) -> String {
+    match scene.call {
+        Call::Add => ONLY_COPY.to_string(),
+        _ => no_place("it has 2 links"),
+    }
+}
+
+const ONLY_COPY: &str = "barthovin: out: it was read, and no new file can take its place: name another output\n";
+
+/// What is said where no new file can take an output's place.
+fn no_place(why: &str) -> String {
+    let hint = "name another output, or give --force, which copies over it";
+    format!("barthovin: out: no new file can take its place, since {why}: {hint}\n")
 }
 
 /// A file may only grow so long: the system refuses what is behind, or ends the run there.
@@ -257,6 +293,9 @@ fn a_full_disk() {
                 assert!(!output.status.success(), "{about}");
                 if !trap.is_empty() && !scene.is_refused() {
                     assert_eq!((message(&output).as_str(), status(&output)), ("barthovin: out: File too large\n", 2));
+                }
+                if scene.is_refused() {
+                    assert_eq!((message(&output), status(&output)), (links(&scene), 2), "{about}");
                 }
                 // Who is ended by the system leaves a hidden file where there are none without a name.
                 let left = scene.left().into_iter().filter(|path| trap.is_empty() && is_hidden(path));
@@ -294,7 +333,8 @@ fn a_small_disk() {
     for shape in shapes.into_iter().chain([&others[..]]) {
         let script =
             |call: &str| format!("{shape}{{ {}; }} > ../before; {call} 2> ../said; {tell}", tell.replace("$?", "2"));
-        let call = "$B pack $SCENE/one $SCENE/two -o out";
+        // Where the file has two links too, the new bytes have to be on the disk before it is copied over.
+        let call = "$B pack --force $SCENE/one $SCENE/two -o out";
         let Some(after) = on_a_small_disk(&scene, 100, &script(call)) else { return };
         let before = fs::read_to_string(scene.home.join("before")).unwrap();
         assert_eq!(after, before, "{shape}");
@@ -303,14 +343,19 @@ fn a_small_disk() {
     }
     // Room for the copy alone: the file with two links is again what it was, and the copy stays.
     let script =
-        "echo old > out; ln out second; $B pack $SCENE/one $SCENE/two -o out 2> ../said; echo $?; cat out second
+        "echo old > out; ln out second; $B pack --force $SCENE/one $SCENE/two -o out 2> ../said; echo $?; cat out second
         cmp .barthovin.*.part $SCENE/new && ls -A | wc -l";
     assert_eq!(on_a_small_disk(&scene, 200, script).unwrap(), "2\nold\nold\n3\n");
     let said = fs::read_to_string(scene.home.join("said")).unwrap();
+    let (first, second) = said.trim_end().split_once('\n').unwrap_or((&said, ""));
     let told = "barthovin: out: No space left on device; what was to be written stands whole in ";
-    assert!(said.starts_with(told) && said.ends_with(".part\n"), "{said}");
+    assert!(second.starts_with(told) && second.ends_with(".part"), "{said}");
+    let told =
+        "barthovin: out: it has 2 links; it is copied over, and until that is done what is written stands whole in ";
+    assert!(first.starts_with(told) && first.rsplit(' ').next() == second.rsplit(' ').next(), "{said}");
     // Room for both.
-    let script = "echo old > out; ln out second; $B pack $SCENE/one $SCENE/two -o out; cmp out $SCENE/new && cmp second out && ls -A | wc -l";
+    let script = "echo old > out; ln out second; $B pack --force $SCENE/one $SCENE/two -o out 2> ../said
+        cmp out $SCENE/new && cmp second out && ls -A | wc -l";
     assert_eq!(on_a_small_disk(&scene, 400, script).unwrap(), "2\n");
 }
 
@@ -346,26 +391,41 @@ const CLOSED: u32 = 0o555;
 const WRITABLE: u32 = 0o640;
 const READABLE: u32 = 0o440;
 
+/// What nobody is told where a scene's folder or its file may not be written: words on standard error, and the status.
+fn told_nobody(scene: &Scene, folders: u32, file: u32) -> (String, i32) {
+    let denied = "barthovin: out: Permission denied\n".to_string();
+    let why = match scene.shape {
+        Shape::Nothing if folders == CLOSED => return (denied, 2),
+        Shape::Nothing => return (String::new(), 0),
+        _ if file == READABLE => return (denied, 2),
+        Shape::TwoLinks => "it has 2 links",
+        _ if folders == CLOSED => "its folder takes none (Permission denied)",
+        Shape::OthersFile => "its owner or its mode can't be given to another file",
+        _ => return (String::new(), 0),
+    };
+    match scene.call {
+        Call::Pack => (no_place(why), 2),
+        Call::Add => (ONLY_COPY.to_string(), 2),
+        Call::Force => (format!("barthovin: out: {why}; it is copied over, "), 0),
+    }
+}
+
 #[test]
 fn no_permission() {
-    let denied = "barthovin: out: Permission denied\n";
-    let only_copy = "barthovin: out: it was read, and no new file can take its place: name another output\n";
     for (folders, file) in [(OPEN, WRITABLE), (CLOSED, WRITABLE), (OPEN, READABLE), (CLOSED, READABLE)] {
-        for mut scene in scenes("permission", [3_000, 20_000]) {
+        let forced = shapes().into_iter().filter(|shape| *shape != Shape::TwoLinks);
+        let forced = forced.map(|shape| Scene::new("permission", shape, Call::Force, [3_000, 20_000]));
+        for mut scene in scenes("permission", [3_000, 20_000]).into_iter().chain(forced) {
             hand_to_nobody(&mut scene, folders, file);
-            let told = as_nobody(&scene);
-            let is_replaced = folders == OPEN && matches!(scene.shape, Shape::File | Shape::Symbolic);
-            let wanted = match (scene.shape, scene.call) {
-                (Shape::Nothing, _) => (folders == OPEN).then_some("").unwrap_or(denied),
-                _ if file == READABLE => denied,
-                (_, Call::Add) if !is_replaced => only_copy,
-                _ => "",
-            };
+            let (told, code) = as_nobody(&scene);
+            let (wanted, wanted_code) = told_nobody(&scene, folders, file);
             let about = format!("folders {folders:o}, file {file:o}: {:?} {:?}", scene.shape, scene.call);
-            assert_eq!(told, (wanted.to_string(), if wanted.is_empty() { 0 } else { 2 }), "{about}");
-            match wanted.is_empty() {
-                true => assert!(scene.bytes().as_ref() == Some(&scene.new) && scene.is_as_it_was(), "{about}"),
-                false => scene.is_untouched(&about),
+            let is_copied = wanted.ends_with(", ");
+            assert!(if is_copied { told.starts_with(&wanted) } else { told == wanted }, "{about}: {told}");
+            assert_eq!(code, wanted_code, "{about}");
+            match code {
+                0 => assert!(scene.bytes().as_ref() == Some(&scene.new) && scene.is_as_it_was(), "{about}"),
+                _ => scene.is_untouched(&about),
             }
             assert_eq!(scene.left(), [] as [PathBuf; 0], "{about}");
             hand_to_nobody(&mut scene, OPEN, WRITABLE);
@@ -391,7 +451,8 @@ fn runs_that_are_killed() {
     let mut random = Random(0x9E37_79B9_7F4A_7C15);
     let patience = Patience::new();
     scenes.iter_mut().for_each(|scene| scene.can_be_done("before"));
-    let usual = patience.start.elapsed() / scenes.len() as u32;
+    let written = scenes.iter().filter(|scene| !scene.is_refused()).count();
+    let usual = patience.start.elapsed() / written as u32;
     let mut met = [0; 3];
     for number in patience.times(200) {
         let count = scenes.len();
@@ -400,19 +461,20 @@ fn runs_that_are_killed() {
         let mut run = command(&scene.home, &scene.call.words().split(' ').collect::<Vec<_>>()).spawn().unwrap();
         sleep(usual.mul_f64(random.below(1_000) as f64 / 800.0));
         run.kill().unwrap();
-        run.wait().unwrap();
+        let output = run.wait_with_output().unwrap();
         let about = format!("run {number}, {:?} {:?}", scene.shape, scene.call);
-        met[scene.after_a_kill(&about)] += 1;
+        met[scene.after_a_kill(&output, &about)] += 1;
     }
     let left: usize = scenes.iter().map(|scene| scene.left().len()).sum();
     println!(
-        "killed: {met:?} old, new and half copied over two links; {left} hidden files left; a run takes {usual:?}"
+        "killed: {met:?} old, new and half copied over two links by force; {left} hidden files left; a run takes {usual:?}"
     );
     assert!(met[0] > 0 && met[1] > 0, "{met:?}");
 }
 
 /// The system calls that change something.
-const CALLS: [&str; 9] = ["flock", "write", "fsync", "fchmod", "linkat", "rename", "pwrite64", "ftruncate", "unlink"];
+const CALLS: [&str; 10] =
+    ["flock", "write", "fsync", "fchmod", "linkat", "rename", "renameat2", "pwrite64", "ftruncate", "unlink"];
 
 /// A run in which something happens at the n-th of a kind of system call; none where that is never met, or strace isn't at hand.
 fn injected(scene: &Scene, call: &str, what: &str, nth: usize) -> Option<Output> {
@@ -430,7 +492,7 @@ fn injected(scene: &Scene, call: &str, what: &str, nth: usize) -> Option<Output>
 /// Where strace is at hand: a run is killed at each system call that changes something, and each of them fails.
 #[test]
 fn each_system_call() {
-    let (mut kills, mut failures) = (0, 0);
+    let (mut kills, mut failures, mut half) = (0, 0, 0);
     let patience = Patience::new();
     for mut scene in scenes("calls", [3_000, 20_000]) {
         if matches!(scene.shape, Shape::Symbolic | Shape::OthersFile) || scene.is_refused() {
@@ -440,9 +502,9 @@ fn each_system_call() {
         for (call, nth) in all.take_while(|_| patience.lasts()) {
             let about = format!("{call} {nth}, {:?} {:?}", scene.shape, scene.call);
             scene.lay();
-            if injected(&scene, call, "signal=SIGKILL", nth).is_some() {
+            if let Some(output) = injected(&scene, call, "signal=SIGKILL", nth) {
                 kills += 1;
-                scene.after_a_kill(&about);
+                half += usize::from(scene.after_a_kill(&output, &about) == 2);
                 scene.left().iter().for_each(|path| fs::remove_file(path).unwrap());
             }
             scene.lay();
@@ -452,7 +514,38 @@ fn each_system_call() {
             }
         }
     }
-    println!("{kills} runs were killed at a system call, and in {failures} one failed");
+    println!("{kills} runs were killed at a system call, {half} of them half way over two links by force; in {failures} one failed");
+}
+
+/// Where strace is at hand: the new bytes are on the disk before the output's name leads to them, or before they are copied, and afterwards the folder with
+/// the name is, or what was copied.
+#[test]
+fn bytes_and_names_are_brought_to_the_disk() {
+    for scene in scenes("synced", [3_000, 20_000]).into_iter().filter(|scene| !scene.is_refused()) {
+        let trace = scene.home.join("trace");
+        let mut strace = Command::new("strace");
+        strace.current_dir(&scene.home).args(["-f", "-y", "-e", "trace=fsync,rename,renameat2,pwrite64", "-o"]);
+        strace.arg(&trace).arg(env!("CARGO_BIN_EXE_barthovin")).args(scene.call.words().split(' '));
+        let Ok(output) = strace.stdin(Stdio::null()).output() else { return println!("strace is not at hand") };
+        assert_eq!(status(&output), 0, "{}", message(&output));
+        let told = fs::read_to_string(&trace).unwrap();
+        let file = fs::canonicalize(scene.file()).unwrap();
+        let folder = format!("<{}>)", file.parent().unwrap().display());
+        let step = |line: &str| match line {
+            _ if line.contains("rename") => Some("name"),
+            _ if line.contains("pwrite64(") => Some("copy"),
+            _ if line.contains("fsync(") && line.contains(&folder) => Some("sync folder"),
+            _ if line.contains("fsync(") => Some("sync bytes"),
+            _ => None,
+        };
+        let mut steps: Vec<&str> = told.lines().filter_map(step).collect();
+        steps.dedup();
+        let wanted = match scene.call {
+            Call::Force => ["sync bytes", "sync folder", "copy", "sync bytes"].as_slice(),
+            _ => &["sync bytes", "name", "sync folder"],
+        };
+        assert_eq!(steps, wanted, "{:?} {:?}: {told}", scene.shape, scene.call);
+    }
 }
 
 /// Two calls that are run at once, and what there may be afterwards.
@@ -467,9 +560,9 @@ impl Both {
         fs::write(scene.home.join("three"), bundle(3, 9_000)).unwrap();
         let calls = [scene.call.words().to_string(), scene.call.words().replace("two", "three")];
         let orders =
-            if scene.call == Call::Pack { ["one two", "one three"] } else { ["one two three", "one three two"] };
+            if scene.call == Call::Add { ["one two three", "one three two"] } else { ["one two", "one three"] };
         let made = |files: &&str| {
-            assert_eq!(status(&shell(&scene.home, &format!("$B pack {files} -o made"))), 0);
+            assert_eq!(status(&shell(&scene.home, &format!("$B pack --force {files} -o made"))), 0);
             fs::read(scene.home.join("made")).unwrap()
         };
         let wanted = orders.iter().map(made).collect();
@@ -477,28 +570,54 @@ impl Both {
         Both { scene, calls, wanted }
     }
 
-    fn run(&mut self, first: usize) {
-        let scene = &mut self.scene;
-        scene.lay();
-        let start = |call: &String| command(&scene.home, &call.split(' ').collect::<Vec<_>>()).spawn().unwrap();
-        for run in [start(&self.calls[first]), start(&self.calls[1 - first])] {
+    /// Starts both and waits for them: the statuses, and what they said.
+    fn at_once(&self, calls: [&str; 2]) -> [(i32, String); 2] {
+        let start = |call: &str| command(&self.scene.home, &call.split(' ').collect::<Vec<_>>()).spawn().unwrap();
+        calls.map(start).map(|run| {
             let output = run.wait_with_output().unwrap();
-            assert!(status(&output) == 0 || scene.is_refused(), "{}", message(&output));
-        }
-        let about = format!("{:?} {:?}", scene.shape, scene.call);
+            (status(&output), message(&output))
+        })
+    }
+
+    fn run(&mut self, first: usize) {
+        self.scene.lay();
+        let ended = self.at_once([&self.calls[first], &self.calls[1 - first]]);
+        let (scene, about) = (&self.scene, format!("{:?} {:?}: {ended:?}", self.scene.shape, self.scene.call));
         assert!(scene.is_as_it_was(), "{about}");
         let bytes = scene.bytes().unwrap();
         assert!(if scene.is_refused() { bytes == scene.old } else { self.wanted.contains(&bytes) }, "{about}");
         assert_eq!(scene.left(), [scene.home.join("three")], "{about}");
+        // A unit that the other one packed stays where it is.
+        let refused = |(code, told): &(i32, String)| *code == 2 && told.contains(" with 1 unit not in the new one");
+        match scene.call {
+            _ if scene.is_refused() => assert!(ended.iter().all(|(code, _)| *code == 2), "{about}"),
+            Call::Pack => assert_eq!(ended.iter().filter(|ended| refused(ended)).count(), 1, "{about}"),
+            _ => assert!(ended.iter().all(|(code, _)| *code == 0), "{about}"),
+        }
+    }
+
+    /// Two runs of one call, which write the same.
+    fn run_one_call(&mut self) {
+        if self.scene.call == Call::Add || self.scene.is_refused() {
+            return;
+        }
+        self.scene.lay();
+        let ended = self.at_once([&self.calls[0], &self.calls[0]]);
+        assert!(ended.iter().all(|(code, _)| *code == 0), "{ended:?}");
+        assert!(self.scene.bytes().as_ref() == Some(&self.scene.new) && self.scene.is_as_it_was());
     }
 }
 
-/// Two runs that write one output: it is what one of them writes. Two that add to it: all is there.
+/// Two runs that write one output: it is what the first of them writes, and the second leaves it, or what the last one writes, where both are forced. Two
+/// that add to it: all is there.
 #[test]
 fn two_runs_at_once() {
     let mut all: Vec<Both> = scenes("at-once", [3_000, 20_000]).into_iter().map(Both::of).collect();
     let patience = Patience::new();
     for round in patience.times(20) {
-        all.iter_mut().for_each(|both| both.run(round % 2));
+        for both in &mut all {
+            both.run(round % 2);
+            both.run_one_call();
+        }
     }
 }

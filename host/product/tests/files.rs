@@ -1,4 +1,5 @@
-//! The file that `barthovin pack` writes: what is there keeps its mode, its owner and its links, as cp treats it.
+//! The file that `barthovin pack` writes: what is there keeps its mode and its owner, and no new file takes the place of one that has more links, unless that
+//! is forced; then it is copied over, as cp does it.
 
 mod common;
 
@@ -41,13 +42,30 @@ fn the_mode_stays() {
     }
 }
 
+/// What is said where no new file can take the place of the old one.
+fn no_place(why: &str) -> String {
+    let hint = "name another output, or give --force, which copies over it";
+    format!("barthovin: old: no new file can take its place, since {why}: {hint}\n")
+}
+
+/// The new bytes were copied over the old ones by force; it was said before where they stood meanwhile.
+fn copied(output: &Output, why: &str) {
+    let told =
+        format!("barthovin: old: {why}; it is copied over, and until that is done what is written stands whole in ");
+    assert!(message(output).starts_with(&told) && message(output).ends_with(".part\n"), "{}", message(output));
+    assert_eq!((message(output).lines().count(), status(output)), (1, 0));
+}
+
 #[test]
-fn hard_links_stay() {
+fn a_file_with_more_links_is_copied_over_by_force_alone() {
     let home = directory("hard");
     fs::write(home.join("old"), vec![7; 500]).unwrap();
     fs::hard_link(home.join("old"), home.join("other")).unwrap();
-    packed(&home, "old");
-    assert_eq!(fs::read(home.join("other")).unwrap(), bytes(PACKAGE));
+    let output = pack_to(&home, "old");
+    assert_eq!((message(&output), status(&output)), (no_place("it has 2 links"), 2));
+    assert_eq!(["old", "other"].map(|name| fs::read(home.join(name)).unwrap()), [[7; 500], [7; 500]]);
+    copied(&run_in(&home, &["pack", "--force", EXAMPLE, "-o", "old"], &[]), "it has 2 links");
+    assert_eq!(["old", "other"].map(|name| fs::read(home.join(name)).unwrap()), [bytes(PACKAGE), bytes(PACKAGE)]);
     assert_eq!(fs::metadata(home.join("old")).unwrap().nlink(), 2);
     assert_eq!(names(&home), ["old", "other"]);
 }
@@ -83,8 +101,8 @@ fn devices_are_written_to() {
 }
 
 /// The same by someone who may not do everything: where the tests run as root, by nobody.
-fn pack_as_someone(home: &Path, file: &str) -> Output {
-    let mut child = command(home, &["pack", "-", "-o", file]);
+fn pack_as_someone(home: &Path, output: &[&str]) -> Output {
+    let mut child = command(home, &[&["pack", "-"], output].concat());
     if fs::metadata("/proc/self").is_ok_and(|m| m.uid() == 0) {
         child.uid(65_534).gid(65_534);
         let _ = std::os::unix::fs::chown(home, Some(65_534), Some(65_534));
@@ -102,23 +120,26 @@ fn a_file_that_may_not_be_written_stays() {
     let file = home.join("old");
     fs::write(&file, b"old").unwrap();
     fs::set_permissions(&file, Permissions::from_mode(0o444)).unwrap();
-    let output = pack_as_someone(&home, "old");
+    let output = pack_as_someone(&home, &["-o", "old"]);
     assert_eq!((message(&output).as_str(), status(&output)), ("barthovin: old: Permission denied\n", 2));
     assert_eq!(fs::read(&file).unwrap(), b"old");
     assert_eq!((mode(&file), names(&home)), (0o444, vec!["old".to_string()]));
 }
 
 #[test]
-fn a_file_is_written_where_no_other_may_stand_beside_it() {
+fn a_file_is_copied_over_where_no_other_may_stand_beside_it() {
     let home = directory("closed-folder");
     let file = home.join("old");
     fs::write(&file, vec![7; 500]).unwrap();
     fs::set_permissions(&file, Permissions::from_mode(0o644)).unwrap();
     fs::set_permissions(&home, Permissions::from_mode(0o555)).unwrap();
-    let output = pack_as_someone(&home, "old");
-    assert_eq!((message(&output).as_str(), status(&output)), ("", 0));
+    let why = "its folder takes none (Permission denied)";
+    let output = pack_as_someone(&home, &["-o", "old"]);
+    assert_eq!((message(&output), status(&output)), (no_place(why), 2));
+    assert_eq!(fs::read(&file).unwrap(), [7; 500]);
+    copied(&pack_as_someone(&home, &["-o", "old", "--force"]), why);
     assert_eq!(fs::read(&file).unwrap(), bytes(PACKAGE));
-    let output = pack_as_someone(&home, "new");
+    let output = pack_as_someone(&home, &["-o", "new"]);
     assert_eq!((message(&output).as_str(), status(&output)), ("barthovin: new: Permission denied\n", 2));
     fs::set_permissions(&home, Permissions::from_mode(0o755)).unwrap();
 }

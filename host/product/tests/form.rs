@@ -21,6 +21,7 @@ fn machine(name: &str) -> String {
 fn a_package_becomes_the_file_that_pack_writes() {
     let home = directory("form");
     for version in [4, 5] {
+        names(&home).iter().for_each(|name| fs::remove_file(home.join(name)).unwrap());
         let [main, race] = ["main", "race"].map(|name| real_file(&format!("gcc-{version}-{name}")));
         done(&home, &["pack", &main, &race, "-o", "release.package"]);
         done(&home, &["pack", &main, &race, "-o", "wanted.dwp"]);
@@ -95,8 +96,8 @@ fn a_file_that_no_reader_opens_is_told_before_it_is_written() {
         let wanted = format!("barthovin: out.dwp: {why}: write the package as it is, without --elf or .dwp\n");
         assert_eq!((message(&output), status(&output)), (wanted, 1));
         assert!(!home.join("out.dwp").exists());
-        assert_eq!(status(&run_in(&home, &["pack", name, "-o", "package"], &[])), 0);
-        let output = run_in(&home, &["elf", "package", "--machine=x86-64", "-o", "told.dwp"], &[]);
+        assert_eq!(status(&run_in(&home, &["pack", "--force", name, "-o", "package"], &[])), 0);
+        let output = run_in(&home, &["elf", "--force", "package", "--machine=x86-64", "-o", "told.dwp"], &[]);
         let wanted = format!("barthovin: told.dwp: {why}: keep package as it is\n");
         assert_eq!((message(&output), status(&output)), (wanted, 0));
         assert!(read(&home, "told.dwp").starts_with(b"\x7FELF"));

@@ -1,4 +1,4 @@
-//! Files that may be the only copy are not written over: those that are read, and `.dwo` files.
+//! Files that may be the only copy are not written over: those that are read, `.dwo` files, and bundles and packages with units that are not in the new one.
 
 mod common;
 
@@ -26,10 +26,21 @@ fn held(home: &Path) -> Vec<(String, Vec<u8>)> {
 
 /// A script fails by itself with this line, and all files are as they were.
 fn left_alone(home: &Path, script: &str, told: &str) {
+    left_with(home, script, &format!("{told}: {HINT}"));
+}
+
+fn left_with(home: &Path, script: &str, told: &str) {
     let before = held(home);
     let output = shell(home, script);
-    assert_eq!((message(&output), status(&output)), (format!("barthovin: {told}: {HINT}"), 2), "{script}");
+    assert_eq!((message(&output), status(&output)), (format!("barthovin: {told}"), 2), "{script}");
     assert!(text(&output).is_empty() && held(home) == before, "{script}");
+}
+
+/// Done without a word on standard error; what was said.
+fn said(home: &Path, script: &str) -> String {
+    let output = shell(home, script);
+    assert_eq!((message(&output), status(&output)), (String::new(), 0), "{script}");
+    text(&output)
 }
 
 #[test]
@@ -125,13 +136,120 @@ fn what_was_made_is_made_again() {
     }
 }
 
+const MAIN: &str = "unit cu 0x22c301d58dbb9946";
+
+/// What is said of a package, and of a bundle, with the unit of main.dwo, which would be lost.
+fn package_of_main(name: &str) -> String {
+    let told = format!("{name}: it is a package with 1 unit not in the new one, perhaps the only copy ({MAIN})");
+    format!("{told}: pack --add adds to it; {HINT}")
+}
+
+fn bundle_of_main(name: &str) -> String {
+    format!("{name}: it is a bundle with 1 unit not in the new one, perhaps the only copy ({MAIN}): {HINT}")
+}
+
+/// A package of files that may be gone: as it is and as an ELF file, whatever its name, and whatever would take its place.
+#[test]
+fn a_package_with_other_units_is_left_alone() {
+    let home = laid_out("guard-package");
+    said(&home, "$B pack main.dwo race.dwo -o release.package && $B pack main.dwo race.dwo -o release.dwp && cp release.dwp other");
+    said(&home, "$B pack main.dwo race.dwo --elf --machine arm -o of-arm; $B pack race.dwo -o late.package");
+    for name in ["release.package", "release.dwp", "other", "of-arm"] {
+        left_with(&home, &format!("$B pack race.dwo -o {name}"), &package_of_main(name));
+        left_with(&home, &format!("$B pack race.dwo -o {name} --json"), &package_of_main(name));
+        left_with(&home, &format!("$B bundle race.dwo -o {name}"), &package_of_main(name));
+    }
+    left_with(&home, "$B elf late.package -o release.dwp --machine arm", &package_of_main("release.dwp"));
+    left_with(&home, "$B pack late.package -o release.package", &package_of_main("release.package"));
+    let _link = Link::to("release.package", home.join("link"));
+    left_with(&home, "$B pack race.dwo -o link", &package_of_main("link"));
+    fs::copy(format!("{FILES}/gcc-5t-driver.dwo"), home.join("driver.dwo")).unwrap();
+    left_with(&home, "$B pack --add late.package driver.dwo -o release.package", &package_of_main("release.package"));
+    // What helps: to have its units too, to add to it, or to force it.
+    let told = said(&home, "$B pack --add late.package main.dwo -o release.package");
+    let wanted = "release.package: the package that was there is replaced, with 2 units: all are in the new one\n1 file added to ";
+    assert!(told.starts_with(wanted), "{told}");
+    assert!(said(&home, "$B pack --add release.package driver.dwo -o release.package").starts_with("1 file added to "));
+    assert_eq!(said(&home, "$B pack --force race.dwo -o release.package && cmp release.package late.package"), "");
+}
+
+/// Type units are units too: those of one signature are one.
+#[test]
+fn type_units_are_missed() {
+    let home = directory("guard-types");
+    for (from, to) in [("clang-4t-driver", "types.dwo"), ("gcc-4-main", "main.dwo")] {
+        fs::copy(format!("{FILES}/{from}.dwo"), home.join(to)).unwrap();
+    }
+    said(&home, "$B pack types.dwo -o package && $B pack types.dwo main.dwo -o both");
+    let units = said(&home, "$B list package | grep -c ^unit");
+    let tell = |script: &str| message(&shell(&home, script));
+    let told = format!("package: it is a package with {} units not in the new one, ", units.trim());
+    assert!(tell("$B pack main.dwo -o package").starts_with(&format!("barthovin: {told}")));
+    // The first of those that are missed is told.
+    let lost = tell("$B pack main.dwo -o both");
+    assert!(lost.contains(" units not in the new one, perhaps the only copy (unit cu 0x"), "{lost}");
+    assert!(said(&home, "$B pack types.dwo main.dwo -o package").contains(": all are in the new one\n"));
+}
+
+#[test]
+fn a_bundle_with_other_units_is_left_alone() {
+    let home = laid_out("guard-bundle");
+    said(&home, "$B bundle main.dwo -o main.bundle && $B bundle race.dwo -o race.bundle");
+    left_with(&home, "$B bundle race.dwo -o main.bundle", &bundle_of_main("main.bundle"));
+    left_with(&home, "$B pack race.dwo -o main.bundle", &bundle_of_main("main.bundle"));
+    left_with(&home, "$B pack -o *.bundle", &bundle_of_main("main.bundle"));
+    // A package of it may take its place, since the unit is in that.
+    let told = said(&home, "$B pack main.dwo race.dwo -o main.bundle");
+    assert_eq!(told, "main.bundle: the bundle that was there is replaced, with 1 unit: all are in the new one\n");
+}
+
+/// What starts as a bundle or a package, and can't be read, may be a damaged copy of what is nowhere else. GNU dwp's empty index is such a fault.
+#[test]
+fn what_cant_be_read_is_left_alone() {
+    let home = laid_out("guard-damaged");
+    said(&home, "$B pack main.dwo -o package; $B pack main.dwo -o package.dwp; head -c 600 package > cut");
+    let unread = |name: &str, kind: &str, why: &str| {
+        format!("{name}: it starts as a {kind}, and what it holds can't be read ({why})")
+    };
+    let stops = unread("cut", "package", "the word at byte 436: a section of 215 bytes, more than follow");
+    let output = shell(&home, "$B pack race.dwo -o cut");
+    assert_eq!(status(&output), 2, "{}", message(&output));
+    assert!(
+        message(&output)
+            .starts_with("barthovin: cut: it starts as a package, and what it holds can't be read (the word at byte "),
+        "{stops}"
+    );
+    // A flag of .debug_info.dwo says that it is compressed.
+    let mut file = fs::read(home.join("package.dwp")).unwrap();
+    let number = |at: usize| file[at..at + 8].iter().rev().fold(0, |v, b| v << 8 | *b as usize);
+    let flags = number(40) + 64 + 8;
+    file[flags + 1] |= 8;
+    fs::write(home.join("compressed.dwp"), file).unwrap();
+    let why = "refused 32: a debug section is compressed, relocated or without bytes";
+    left_alone(&home, "$B pack main.dwo -o compressed.dwp", &unread("compressed.dwp", "package", why));
+}
+
+/// A package whose units are all in the new one is replaced, and that is said; one that is made again as it was takes no word.
+#[test]
+fn a_package_is_replaced_by_one_with_more() {
+    let home = laid_out("guard-more");
+    for name in ["release.package", "release.dwp"] {
+        assert_eq!(said(&home, &format!("$B pack main.dwo -o {name}")), "");
+        let told = format!("{name}: the package that was there is replaced, with 1 unit: all are in the new one\n");
+        assert_eq!(said(&home, &format!("$B pack main.dwo race.dwo -o {name}")), told);
+        assert_eq!(said(&home, &format!("$B pack main.dwo race.dwo -o {name}")), "");
+        let json = said(&home, &format!("$B pack race.dwo main.dwo -o {name} --json"));
+        assert!(json.ends_with(",\"replaced_units\":2}\n"), "{json}");
+    }
+    let told = "release.dwp: the package that was there is replaced, with 2 units: all are in the new one\n";
+    assert_eq!(said(&home, "$B elf release.package --machine arm -o release.dwp"), told);
+    assert_eq!(said(&home, "$B elf release.package --machine arm -o release.dwp"), "");
+}
+
 #[test]
 fn force_writes_over_them() {
     let home = laid_out("guard-force");
-    let done = |script: &str| {
-        let output = shell(&home, script);
-        assert_eq!((message(&output), status(&output)), (String::new(), 0), "{script}");
-    };
+    let done = |script: &str| assert_eq!(said(&home, script), "");
     done("$B pack main.dwo race.dwo -o wanted && $B bundle race.dwo -o bundle");
     done("$B pack --force main.dwo race.dwo -o main.dwo && cmp main.dwo wanted");
     done("$B bundle race.dwo --force -o race.dwo && cmp race.dwo bundle");

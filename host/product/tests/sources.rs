@@ -34,7 +34,7 @@ fn units(list: &str) -> Vec<&str> {
 fn every_compilation_unit_has_its_source() {
     let home = directory("sources");
     for (file, source) in FILES {
-        let output = run_in(&home, &["pack", &real_file(file), "-o", "package"], &[]);
+        let output = run_in(&home, &["pack", "--force", &real_file(file), "-o", "package"], &[]);
         assert_eq!(status(&output), 0, "{}", message(&output));
         let list = done(&home, &["list", "--names", "package"]);
         assert!(units(&list).len() == 1 && units(&list)[0].ends_with(&format!("; name {source}")), "{file}: {list}");
@@ -59,7 +59,7 @@ fn each_unit_has_its_own() {
     for version in [4, 5] {
         let files = ["gcc-V-main", "clang-V-race", "gcc-Vt-driver"]
             .map(|name| real_file(&name.replace('V', &version.to_string())));
-        let call = [&["pack", "-o", "package.dwp"][..], &files.each_ref().map(String::as_str)].concat();
+        let call = [&["pack", "--force", "-o", "package.dwp"][..], &files.each_ref().map(String::as_str)].concat();
         assert_eq!(status(&run_in(&home, &call, &[])), 0);
         let list = done(&home, &["list", "--names", "package.dwp"]);
         let names: Vec<&str> = units(&list).iter().map(|line| line.split("; name ").nth(1).unwrap()).collect();

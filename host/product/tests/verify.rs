@@ -59,7 +59,7 @@ fn what_was_packed_is_found() {
         let files: Vec<&str> = files.iter().map(String::as_str).collect();
         let read = if big { "1 file, 1 object: " } else { "6 files, 6 objects: " };
         let told = format!("{read}{told}");
-        assert_eq!(status(&run_in(&home, &[&["pack", "-oout"], &files[..]].concat(), &[])), 0);
+        assert_eq!(status(&run_in(&home, &[&["pack", "--force", "-oout"], &files[..]].concat(), &[])), 0);
         let output = run_in(&home, &[&["verify", "out"], &files[..]].concat(), &[]);
         assert_eq!((text(&output), message(&output), status(&output)), (told.clone(), String::new(), 0));
         // A package in the place of the file it was made of.

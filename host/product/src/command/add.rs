@@ -38,12 +38,9 @@ impl Earlier {
         }
     }
 
-    /// Writes what was made of it; where the output is the package itself, in its place.
-    pub fn write(&self, to: &OsStr, bytes: &[u8]) -> Result<(), Stop> {
-        match &self.held {
-            Some(package) => output::write_instead(package, to, bytes),
-            None => output::write(to, bytes),
-        }
+    /// The package where it is the output too: what is made of it takes its place.
+    pub fn held(&self) -> Option<&Held> {
+        self.held.as_ref()
     }
 
     /// What is told once so many files are added.

@@ -18,5 +18,8 @@ pub fn run(arguments: &[OsString]) -> Result<u8, Stop> {
     guard::judge(&call, to, &call.operands)?;
     let file = progress::shown("reading 1 file".to_string(), || input::read(from, LONGEST_FILE))?;
     let bundle = from_elf(&call, &file, &input::shown(from))?;
-    output::write(to, &bundle).map(|()| DONE)
+    match guard::write(&call, to, &bundle, &bundle)? {
+        Some(replaced) => output::print(&replaced.line(to)),
+        None => Ok(DONE),
+    }
 }

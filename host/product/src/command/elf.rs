@@ -33,5 +33,8 @@ pub fn run(arguments: &[OsString]) -> Result<u8, Stop> {
         note_without_index(&package.shown, &package.bytes);
     }
     machine.line().iter().for_each(|line| stop::note(&format!("{}: {line}", output::shown(to))));
-    output::write(to, &file).map(|()| DONE)
+    match guard::write(&call, to, &package.bytes, &file)? {
+        Some(replaced) => output::print(&replaced.line(to)),
+        None => Ok(DONE),
+    }
 }

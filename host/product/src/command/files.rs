@@ -112,6 +112,11 @@ pub fn no_package(call: &Call, name: &OsStr, bytes: &[u8]) -> Stop {
 
 /// The bundle of an ELF file.
 pub fn from_elf(call: &Call, file: &[u8], shown: &str) -> Result<Lent<u8>, Stop> {
+    bundle_of(file).map_err(|number| refused_call(call, shown, number, explain::reading_elf(file, number)))
+}
+
+/// The same, or the refusal's number.
+pub fn bundle_of(file: &[u8]) -> Result<Lent<u8>, u32> {
     let mut bundle = Lent::zeros(file.len().min(LONGEST_BUNDLE));
     let (mut code, mut length) = elf::read_either(file, &mut bundle);
     if code == OUTPUT_TOO_SHORT {
@@ -119,7 +124,7 @@ pub fn from_elf(call: &Call, file: &[u8], shown: &str) -> Result<Lent<u8>, Stop>
         (code, length) = elf::read_either(file, &mut bundle);
     }
     if code != 0 {
-        return Err(refused_call(call, shown, code, explain::reading_elf(file, code)));
+        return Err(code);
     }
     bundle.truncate(length);
     Ok(bundle)

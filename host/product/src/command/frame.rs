@@ -70,9 +70,13 @@ impl<'f> Frame<'f> {
     /// Whether it has sections that are packed and no index: compilers write such files, and packers don't.
     pub fn is_dwo(&self) -> bool {
         let names = self.names().unwrap_or_default();
-        let has = |part: &str| names.windows(part.len()).any(|window| window == part.as_bytes());
         let is_packed = |name: &[u8]| name.ends_with(b".dwo") && name.windows(6).any(|part| part == b"debug_");
-        names.split(|b| *b == 0).any(is_packed) && !has("debug_cu_index\0") && !has("debug_tu_index\0")
+        names.split(|b| *b == 0).any(is_packed) && !has_index(&names)
+    }
+
+    /// Whether it has an index, as packers write it.
+    pub fn is_package(&self) -> bool {
+        self.names().is_ok_and(|names| has_index(&names))
     }
 
     /// Whether it has code or data of the program besides.
@@ -84,6 +88,12 @@ impl<'f> Frame<'f> {
         let count = self.field(&self.header, self.layout.lengths + 2, 2);
         (0..count).any(|which| self.section(which).is_ok_and(is_loaded))
     }
+}
+
+/// Whether an index is among the names of sections.
+fn has_index(names: &[u8]) -> bool {
+    let has = |part: &[u8]| names.windows(part.len()).any(|window| window == part);
+    has(b"debug_cu_index\0") || has(b"debug_tu_index\0")
 }
 
 /// Whether a file that was read has code or data of the program besides its debug sections.

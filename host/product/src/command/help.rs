@@ -30,7 +30,8 @@ Write the bundle of the split-debug sections of an ELF file, or say why there is
 FILE is a relocatable ELF file of 64 or 32 bits, as compilers write it for -gsplit-dwarf (.dwo), or - for standard input.
 
   -o, --output=BUNDLE    the file to write, or - for standard output
-      --force            write it over FILE itself, or over a .dwo file
+      --force            write it over FILE itself, a .dwo file, or a bundle or a package with other units, and copy it over a file in whose
+                         place no new one can be
   -h, --help             show this help and exit
   -V, --version          show the version and exit
 
@@ -46,7 +47,8 @@ for the files that LIST names (./@NAME for a file that is called so), one on eac
   -o, --output=PACKAGE   the file to write, or - for standard output; where its name ends in .dwp, an ELF file
       --add=PACKAGE      add the files to a package, as it is or as an ELF file; -o may name the same one. An ELF file stays one
       --elf              write an ELF file whatever its name
-      --force            write it over one of the files, or over a .dwo file
+      --force            write it over one of the files, a .dwo file, or a bundle or a package with other units, and copy it over a file in
+                         whose place no new one can be
       --machine=MACHINE  of the ELF file: x86-64, aarch64, arm, riscv64, riscv32, i386, powerpc, powerpc64, mips or a number; else that
                          of the files or of the package that is added to, else x86-64, which is said
       --strict           refuse files without debug information, which are left out else
@@ -72,10 +74,14 @@ until the last one is packed. Where the output is the package itself, a new file
 waits for the first, and adds to what that one wrote.
 
 All files together make a bundle of at most 4,194,304 bytes: a package for each program, -g1 (gcc) or -gmlt (clang) for the longest files and no -g3
-make it shorter. A file that is there keeps its mode, owner and links, and its bytes until the new
-ones are on the disk: then a new file takes its place. Where none can, since it has more links, another owner or a folder that takes no file,
-the new bytes are copied over it; the copy that they come from goes when that is done, and is named where it fails. Devices, pipes and what
-stands under /proc, as /dev/stdout, are written as they are. An output that is one of the files, or a .dwo file, is left alone without --force.
+make it shorter. A file that is there keeps its mode and owner, and its bytes until the new ones are on the disk: then a new file takes its place. Where
+none can, since it has more links, an owner that can't be given or a folder that takes no file, it is left alone without --force; with it the new bytes
+are copied over it, and it is said before where they stand whole meanwhile. Devices, pipes and what stands under /proc, as /dev/stdout, are written as they
+are.
+
+What may be the only copy is left alone without --force: an output that is one of the files, a .dwo file, and a bundle or a package with a unit that is
+not in the new one, as files that are compiled anew are other units. A package whose units are all in the new one is replaced, and that is said; --add
+adds to it.
 
 Exit status: 0 written; 1 refused; 2 a wrong call, or a file that can't be read or written.";
 
@@ -87,7 +93,8 @@ PACKAGE is a file, as it is or as an ELF file, or - for standard input. Where no
 is said before it is written.
 
   -o, --output=FILE.dwp  the file to write, or - for standard output
-      --force            write it over PACKAGE itself, or over a .dwo file
+      --force            write it over PACKAGE itself, a .dwo file, or a bundle or a package with other units, and copy it over a file in whose
+                         place no new one can be
       --machine=MACHINE  of the ELF file: x86-64, aarch64, arm, riscv64, riscv32, i386, powerpc, powerpc64, mips or a number; else that
                          of PACKAGE where it is an ELF file, else x86-64, which is said
   -h, --help             show this help and exit

@@ -1,8 +1,8 @@
 //! What is written: to standard output, and to files.
 //!
-//! A file that is there keeps its mode, its owner and its links, and one that may not be written is left alone, as cp does it. Its bytes are
-//! there until the new ones are on the disk: a new file beside it takes its place, and where that can't be the bytes are copied over it. One
-//! that was read, and may be the only copy, is replaced so or not written at all.
+//! A file that is there keeps its mode and its owner, and one that may not be written is left alone, as cp does it. Its bytes are there until the new ones
+//! are on the disk: then a new file beside it takes its place. Where that can't be, nothing is written, unless it is forced: then the bytes are copied
+//! over it. One that was read, and may be the only copy, is replaced so or not written at all.
 
 mod beside;
 mod held;
@@ -40,17 +40,33 @@ pub fn write_standard(bytes: &[u8]) -> Result<(), Stop> {
     })
 }
 
-/// Writes a file, or standard output for `-`.
-pub fn write(name: &OsStr, bytes: &[u8]) -> Result<(), Stop> {
+/// Judges a file that is to be written over, while no other run writes it.
+pub type Judge<'j> = dyn FnMut(&Path) -> Result<(), Stop> + 'j;
+
+/// Another run may put a file there or take it away meanwhile; so many times in a row none does.
+const TRIES: usize = 100;
+
+/// Writes a file, or standard output for `-`. A file that is there is judged first; by force it is copied over where no new one can take its place.
+pub fn write(name: &OsStr, bytes: &[u8], force: bool, judge: &mut Judge) -> Result<(), Stop> {
     let failed = |error: io::Error| Stop::file(&shown(name), &error);
-    let written = match Place::of(name).map_err(failed)? {
-        Place::Descriptor(STANDARD_OUTPUT) => return write_standard(bytes),
-        Place::Descriptor(number) => descriptor(number).and_then(|mut file| file.write_all(bytes)),
-        Place::AsItIs(path) => as_it_is(&path, bytes),
-        Place::New(path) => whole::new(&path, bytes),
-        Place::File(path) => hold_path(&path, name).and_then(|old| whole::over(&old, bytes)),
-    };
-    written.map_err(failed)
+    for _ in 0..TRIES {
+        let written = match Place::of(name).map_err(failed)? {
+            Place::Descriptor(STANDARD_OUTPUT) => return write_standard(bytes),
+            Place::Descriptor(number) => descriptor(number).and_then(|mut file| file.write_all(bytes)),
+            Place::AsItIs(path) => as_it_is(&path, bytes),
+            Place::New(path) => match whole::new(&path, bytes) {
+                Err(error) if error.kind() == ErrorKind::AlreadyExists => continue,
+                written => written,
+            },
+            Place::File(path) => {
+                let old = hold_path(&path, name).map_err(failed)?;
+                judge(&old.path)?;
+                whole::over(&old, bytes, force, &shown(name))
+            }
+        };
+        return written.map_err(failed);
+    }
+    Err(failed(ErrorKind::AlreadyExists.into()))
 }
 
 /// Writes in the place of a file that was read.

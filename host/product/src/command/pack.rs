@@ -3,6 +3,7 @@
 use super::add::{self, Added, Earlier};
 use super::call::{Call, Known};
 use super::files::{join, listed, refused_call, Joined};
+use super::guard::Replaced;
 use super::refusals::Refusals;
 use super::{guard, input, output, progress, show, stop, Stop, DONE};
 use crate::closed::closed;
@@ -66,16 +67,14 @@ pub fn run(arguments: &[OsString]) -> Result<u8, Stop> {
     let namesakes = if call.has("namesakes") { namesakes(&joined, skipped)? } else { Vec::new() };
     let machine = as_elf.then(|| Machine::of(named, joined.machine()));
     let (left_out, later) = (joined.left_out.clone(), closed(&package));
-    let done = Done { length: 0, machine, skipped, namesakes, added, left_out, closed: later };
-    let file = match &machine {
-        Some(machine) => elf_file(&call, to, &package, machine.number(), joined)?,
-        None => package,
+    let file = machine.map(|machine| elf_file(&call, to, &package, machine.number(), joined)).transpose()?;
+    let file = file.as_ref().unwrap_or(&package);
+    let replaced = match earlier.as_ref().and_then(Earlier::held) {
+        Some(held) => output::write_instead(held, to, file).map(|()| None)?,
+        None => guard::write(&call, to, &package, file)?,
     };
-    match &earlier {
-        Some(earlier) => earlier.write(to, &file)?,
-        None => output::write(to, &file)?,
-    }
-    say(&call, to, Done { length: file.len(), ..done })
+    let length = file.len();
+    say(&call, to, Done { length, machine, skipped, namesakes, added, left_out, closed: later, replaced })
 }
 
 /// The machine that an ELF file is written for.
@@ -121,7 +120,7 @@ fn elf_file(call: &Call, to: &OsStr, package: &[u8], machine: u32, packed: Joine
 }
 
 /// What was done: the length written, the machine of an ELF file, what was skipped and which of it are namesakes where that is asked for, what was
-/// added to a package, what was left out, and why nothing can be added later.
+/// added to a package, what was left out, why nothing can be added later, and what was replaced.
 struct Done {
     length: usize,
     machine: Option<Machine>,
@@ -130,6 +129,7 @@ struct Done {
     added: Option<Added>,
     left_out: Vec<String>,
     closed: Option<u32>,
+    replaced: Option<Replaced>,
 }
 
 impl Done {
@@ -144,7 +144,8 @@ impl Done {
         let left_out: Vec<String> = self.left_out.iter().map(|file| show::json(file)).collect();
         let left_out = (!left_out.is_empty()).then(|| format!(",\"left_out\":[{}]", left_out.join(",")));
         let counts = format!("\"repeats\":{repeats},\"namesakes\":{namesakes}");
-        let more = [left_out, listed].map(Option::unwrap_or_default).concat();
+        let replaced = self.replaced.as_ref().map(Replaced::json);
+        let more = [left_out, listed, replaced].map(Option::unwrap_or_default).concat();
         format!("{{\"length\":{},{counts}{machine}{same}{later}{more}}}", self.length)
     }
 }
@@ -155,12 +156,14 @@ fn say(call: &Call, to: &OsStr, done: Done) -> Result<u8, Stop> {
     if call.has("json") {
         return output::print(&done.json(call));
     }
-    let Done { machine, skipped, namesakes, added, closed, .. } = done;
+    let Done { machine, skipped, namesakes, added, closed, replaced, .. } = done;
     let counts = (skipped != Skipped::default()).then(|| show::skipped(skipped));
     let usual = machine.and_then(Machine::line);
     let namesakes_usual = (skipped.namesakes > 0).then(|| show::NAMESAKES.to_string());
     let later = closed.map(add::not_later);
-    let lines = added.iter().map(Added::line).chain(later).chain(usual).chain(counts).chain(namesakes_usual);
+    let replaced = replaced.iter().map(|replaced| replaced.line(to));
+    let lines =
+        replaced.chain(added.iter().map(Added::line)).chain(later).chain(usual).chain(counts).chain(namesakes_usual);
     let lines = lines.chain(namesakes.iter().map(Namesake::line));
     let text = lines.collect::<Vec<_>>().join("\n");
     if text.is_empty() {

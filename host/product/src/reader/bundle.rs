@@ -97,6 +97,11 @@ fn broken<T>(at: usize, why: impl Into<String>) -> Result<T, Broken> {
     Err(Broken { at, why: why.into() })
 }
 
+/// Whether bytes start as every bundle and package does.
+pub fn starts(bytes: &[u8]) -> bool {
+    word(bytes, 0).is_some_and(|first| first & !1 == HEAD)
+}
+
 impl<'a> Bundle<'a> {
     pub fn read(bytes: &'a [u8]) -> Result<Bundle<'a>, Broken> {
         let big = match word(bytes, 0) {

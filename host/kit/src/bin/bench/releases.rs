@@ -187,8 +187,11 @@ impl Runner {
         self
     }
 
-    /// Once more, unless it ended otherwise than well before.
+    /// Once more, unless it ended otherwise than well before. Each writes a new package: what is there takes time to be looked at.
     fn run(&mut self) -> Result<()> {
+        for package in &self.package {
+            let _ = fs::remove_file(package);
+        }
         self.ended = match (self.ended, &self.program) {
             (Some(ended @ (Ended::Badly | Ended::Never(_))), _) => Some(ended),
             (before, program) => match (before, program.run()?) {

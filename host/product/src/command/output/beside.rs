@@ -15,12 +15,15 @@ use std::path::{Path, PathBuf};
 const NAMELESS: i32 = 0o20_200_000;
 const FROM_HERE: i32 = -100;
 const FOLLOW: i32 = 0x400;
+/// A name that is taken stays what it is.
+const NO_REPLACE: u32 = 1;
 
 /// So many names are tried.
 const TRIES: usize = 100;
 
 extern "C" {
     fn linkat(from: i32, name: *const c_char, to: i32, new: *const c_char, flags: i32) -> i32;
+    fn renameat2(from: i32, name: *const c_char, to: i32, new: *const c_char, flags: u32) -> i32;
 }
 
 /// Until it took a place or is kept it is ours, and goes when this is dropped.
@@ -80,6 +83,19 @@ impl Beside {
         Ok(())
     }
 
+    /// Takes a place where nothing is, if that is still so. Some systems can't tell.
+    pub fn take_free(&mut self, path: &Path) -> io::Result<()> {
+        let name = self.name.as_ref().ok_or(ErrorKind::NotFound)?;
+        match move_to_free(name, path) {
+            Err(error) if matches!(error.kind(), ErrorKind::InvalidInput | ErrorKind::Unsupported) => self.take(path),
+            Err(error) => Err(error),
+            Ok(()) => {
+                self.name = None;
+                Ok(())
+            }
+        }
+    }
+
     /// Brings its name to the disk. A folder that can't be opened, or that the system doesn't sync, is left to it.
     pub fn sync_name(&self) -> io::Result<()> {
         let left = [ErrorKind::PermissionDenied, ErrorKind::InvalidInput, ErrorKind::Unsupported];
@@ -89,9 +105,14 @@ impl Beside {
         }
     }
 
-    /// Its name, which stays.
-    pub fn kept(mut self) -> PathBuf {
-        self.name.take().unwrap_or_default()
+    /// Its name; none before its bytes are on the disk.
+    pub fn name(&self) -> &Path {
+        self.name.as_deref().unwrap_or(Path::new(""))
+    }
+
+    /// It stays under its name.
+    pub fn keep(&mut self) {
+        self.name = None;
     }
 }
 
@@ -120,6 +141,17 @@ fn link(file: &File, name: &Path) -> io::Result<()> {
     let name = CString::new(name.as_os_str().as_bytes())?;
     // Both texts end in a zero and live until it is done.
     match unsafe { linkat(FROM_HERE, from.as_ptr(), FROM_HERE, name.as_ptr(), FOLLOW) } {
+        0 => Ok(()),
+        _ => Err(io::Error::last_os_error()),
+    }
+}
+
+/// Gives a file another name, which nobody has.
+fn move_to_free(name: &Path, path: &Path) -> io::Result<()> {
+    let [name, path] = [name, path].map(|path| CString::new(path.as_os_str().as_bytes()));
+    let (name, path) = (name?, path?);
+    // Both texts end in a zero and live until it is done.
+    match unsafe { renameat2(FROM_HERE, name.as_ptr(), FROM_HERE, path.as_ptr(), NO_REPLACE) } {
         0 => Ok(()),
         _ => Err(io::Error::last_os_error()),
     }
@@ -204,9 +236,27 @@ mod tests {
             fs::remove_file(folder.join("place")).unwrap();
             let mut beside = make(&folder, None).unwrap();
             beside.fill(b"bytes").unwrap();
-            let kept = beside.kept();
+            let kept = beside.name().to_path_buf();
+            beside.keep();
+            drop(beside);
             assert_eq!(fs::read(&kept).unwrap(), b"bytes");
             fs::remove_file(kept).unwrap();
+        }
+        fs::remove_dir_all(folder).unwrap();
+    }
+
+    /// A free place is taken, and one that isn't free stays what it is.
+    #[test]
+    fn a_free_place_is_taken() {
+        let folder = folder("free");
+        let place = folder.join("place");
+        for (bytes, is_free) in [(b"first".as_slice(), true), (b"second", false)] {
+            let mut beside = Beside::new(&folder, None).unwrap();
+            beside.fill(bytes).unwrap();
+            let taken = beside.take_free(&place).map_err(|error| error.kind());
+            assert_eq!(taken, if is_free { Ok(()) } else { Err(ErrorKind::AlreadyExists) });
+            drop(beside);
+            assert_eq!((fs::read(&place).unwrap(), names(&folder)), (b"first".to_vec(), vec![place.clone()]));
         }
         fs::remove_dir_all(folder).unwrap();
     }

@@ -3,25 +3,26 @@
 use super::beside::Beside;
 use super::held::Held;
 use crate::command::show;
-use crate::command::stop::reason;
+use crate::command::stop::{note, reason};
 use std::env;
 use std::fs::File;
-use std::io;
+use std::io::{self, ErrorKind};
 use std::os::unix::fs::{FileExt, MetadataExt};
 use std::path::Path;
 
 const ONLY_COPY: &str = "it was read, and no new file can take its place: name another output";
+const HINT: &str = "name another output, or give --force, which copies over it";
 pub const CHANGED: &str = "it was changed since it was read, and is left as it is: do it again";
 
 fn folder(path: &Path) -> &Path {
     path.parent().unwrap_or(Path::new("/"))
 }
 
-/// A file where none is.
+/// A file where none is. Where another run has put one there meanwhile, it stays.
 pub fn new(path: &Path, bytes: &[u8]) -> io::Result<()> {
     let mut beside = Beside::new(folder(path), None)?;
     beside.fill(bytes)?;
-    beside.take(path)?;
+    beside.take_free(path)?;
     settled(&beside)
 }
 
@@ -49,25 +50,56 @@ pub fn instead(read: &Held, bytes: &[u8]) -> io::Result<()> {
     settled(&beside)
 }
 
-/// Over a file that is there. Where no new one can take its place, since it has more links, another owner, or a folder that takes no file, the
-/// bytes are copied over it once they are on the disk in another file, which stays where that fails.
-pub fn over(old: &Held, bytes: &[u8]) -> io::Result<()> {
+/// Over a file that is there: a new one takes its place. Where none can, nothing is written; by force the bytes are copied over it.
+pub fn over(old: &Held, bytes: &[u8], force: bool, shown: &str) -> io::Result<()> {
+    match in_place_of(old, bytes)? {
+        Ok(()) => Ok(()),
+        Err(why) if force => by_copying(old, bytes, &format!("{shown}: {why}")),
+        Err(why) => Err(io::Error::other(format!("no new file can take its place, since {why}: {HINT}"))),
+    }
+}
+
+/// A new file in the place of one that is there; else why none can be.
+fn in_place_of(old: &Held, bytes: &[u8]) -> io::Result<Result<(), String>> {
+    if old.told.nlink() > 1 {
+        return Ok(Err(format!("it has {} links", old.told.nlink())));
+    }
+    let mut beside = match Beside::new(folder(&old.path), Some(&old.told)) {
+        Err(error) if error.kind() == ErrorKind::StorageFull => return Err(error),
+        Err(error) => return Ok(Err(format!("its folder takes none ({})", reason(&error)))),
+        Ok(beside) => beside,
+    };
+    if !beside.is_like {
+        return Ok(Err("its owner or its mode can't be given to another file".to_string()));
+    }
+    beside.fill(bytes)?;
+    if !old.is_unchanged() {
+        return Err(io::Error::other(CHANGED));
+    }
+    match beside.take(&old.path) {
+        Err(error) => Ok(Err(format!("it stays where it is ({})", reason(&error)))),
+        Ok(()) => settled(&beside).map(Ok),
+    }
+}
+
+/// Copies the bytes over a file once they are on the disk in another one. Who ends the run in the middle finds them there: it was told where, and that
+/// file stays too where the copying fails.
+fn by_copying(old: &Held, bytes: &[u8], why: &str) -> io::Result<()> {
     let there = Some(&old.told);
     let mut beside = Beside::new(folder(&old.path), there).or_else(|_| Beside::new(&env::temp_dir(), there))?;
     beside.fill(bytes)?;
-    if old.told.nlink() == 1 && beside.is_like && beside.take(&old.path).is_ok() {
-        return settled(&beside);
-    }
     beside.sync_name()?;
-    copy(&old.file, old.told.len(), bytes).map_err(|error| {
-        let copy = show::name(beside.kept().as_os_str());
+    let copy = show::name(beside.name().as_os_str());
+    note(&format!("{why}; it is copied over, and until that is done what is written stands whole in {copy}"));
+    copy_over(&old.file, old.told.len(), bytes).map_err(|error| {
+        beside.keep();
         io::Error::other(format!("{}; what was to be written stands whole in {copy}", reason(&error)))
     })
 }
 
 /// Copies bytes over a file. Those behind its end come first: where the disk has no room for them, it is again what it was. There is no sync in
 /// between, which would make the time longer in which it is neither the old one nor the new one.
-fn copy(file: &File, old: u64, bytes: &[u8]) -> io::Result<()> {
+fn copy_over(file: &File, old: u64, bytes: &[u8]) -> io::Result<()> {
     let (front, behind) = bytes.split_at(bytes.len().min(old as usize));
     if let Err(error) = file.write_all_at(behind, old) {
         file.set_len(old)?;
