@@ -75,7 +75,7 @@ PROVERS ?= $(shell echo $$((($$(nproc) + 1) / 2)))
 
 $(LIBRARY): $(SOURCES)
 	@count=$$(sed -n 's/^archive staticlib://p' crates.txt | wc -w); start=$$(date +%s); rm -rf target/proved; \
-	echo "proving the packer: $$count crates, then archive with the theorem, $(PROVERS) at once: some minutes in all, each line as its crate is done"; \
+	echo "proving the packer: $$count crates, then archive with the theorem, $(PROVERS) at once: about ten minutes on four processors, longer beside other work; a line as each crate is done"; \
 	$(MAKE) --no-print-directory -j $(PROVERS) -f tools/prove.mk || exit 1; \
 	mkdir -p target/staticlib && cp crates/archive/out/libarchive.a $@ || exit 1; \
 	rt version > target/staticlib/kit 2> /dev/null || rm -f target/staticlib/kit; \

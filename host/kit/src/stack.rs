@@ -2,10 +2,11 @@
 //!
 //! A thread's free stack is painted, the call is made, and the deepest byte that isn't paint any more says how far it went.
 
-use crate::generate::{call, sized, Random, HOSTILE, KINDS, SHORT};
-use crate::reference::WORK_FOR_A_WORD;
+use crate::elf::Class;
+use crate::generate::{call, elf as generate_elf, sized, Random, HOSTILE, KINDS, SHORT};
+use crate::reference::{Bundle, WORK_FOR_A_WORD};
 use barthovin::answer::Asked;
-use barthovin::{batch, elf, ffi, join, profile, sheet};
+use barthovin::{batch, elf, ffi, join, profile, sheet, verifying};
 use std::thread;
 
 const STACK: usize = 1 << 20;
@@ -62,6 +63,24 @@ fn bundles(seed: u64, count: usize) -> Vec<Vec<u8>> {
     bundles
 }
 
+/// The version of a package's index, by its object word.
+fn index_version(package: &[u8]) -> u32 {
+    let word = Bundle::read(package).and_then(|read| read.objects.first().map(|object| object.word));
+    if word.is_some_and(|word| word & 0xFF == 5) {
+        5
+    } else {
+        2
+    }
+}
+
+/// Places of a package: none of it, its middle, and in each section the last byte but one, which of str is the last string's.
+fn places_to_change(package: &[u8]) -> Vec<usize> {
+    let objects = Bundle::read(package).map_or(Vec::new(), |read| read.objects);
+    let sections = objects.iter().flat_map(|object| &object.sections);
+    let last = sections.map(|section| section.start + section.bytes.len().saturating_sub(2));
+    [usize::MAX, package.len() / 2].into_iter().chain(last).collect()
+}
+
 struct Measured<'a> {
     entries: Vec<Entry>,
     bundle: &'a [u8],
@@ -94,11 +113,25 @@ impl Measured<'_> {
             ffi::pack_small(bundle, &mut other);
         });
         output.truncate(length);
+        self.verifying(&mut work, &mut other, &output);
         output
     }
 
+    /// The bundle's own package, and such as it isn't: where one byte differs, each unit is asked for up to it.
+    fn verifying(&mut self, work: &mut [u32], output: &mut [u8], package: &[u8]) {
+        let bundle = self.bundle;
+        let version = index_version(package);
+        for place in places_to_change(package) {
+            let mut theirs = package.to_vec();
+            theirs.get_mut(place).into_iter().for_each(|byte| *byte ^= 1);
+            self.note("barthovin_verify", || {
+                verifying::verify(bundle, (&mut *work, &mut *output), &theirs, version);
+            });
+        }
+    }
+
     fn asking(&mut self, package: &[u8]) {
-        let version = if package.get(4) == Some(&5) { 5 } else { 2 };
+        let version = index_version(package);
         let questions: Vec<u32> = (0..40).flat_map(|i| batch::question(1, 1, i).expect("it fits")).collect();
         let (mut answers, mut page) = (vec![0; 160], vec![0; 1 << 16]);
         let mut file = vec![0; package.len() + 2_048];
@@ -123,34 +156,36 @@ impl Measured<'_> {
         self.note("barthovin_write_elf", || {
             elf::write(package, 62, &mut file);
         });
-        let mut bundle = vec![0; file.len()];
-        self.note("barthovin_read_elf", || {
-            elf::read(&file, &mut bundle);
-        });
-        self.files_of_others(package, &mut file, &mut bundle);
-    }
-}
-
-impl Measured<'_> {
-    /// Files of 32 bits and of any machine, opened and joined.
-    fn files_of_others(&mut self, package: &[u8], file: &mut [u8], bundle: &mut [u8]) {
         const ARM: u32 = 40;
         self.note("barthovin_write_elf_for", || {
-            elf::write_for(package, ARM, file);
+            elf::write_for(package, ARM, &mut file);
         });
-        self.note("barthovin_read_elf32", || {
-            elf::read_32(file, bundle);
-        });
-        self.note("barthovin_open", || {
-            join::open(file, bundle);
-        });
+        self.reading(&file);
+    }
+
+    /// A file read by both readers, opened, and joined to none and to a bundle.
+    fn reading(&mut self, file: &[u8]) {
+        let mut output = vec![0; 2 * file.len() + 4_096];
+        for (name, read) in [
+            ("barthovin_read_elf", elf::read as fn(&[u8], &mut [u8]) -> (u32, usize)),
+            ("barthovin_read_elf32", elf::read_32),
+            ("barthovin_open", join::open),
+            ("barthovin_join", |file, memory| join::join(memory, 0, file)),
+        ] {
+            self.note(name, || {
+                read(file, &mut output);
+            });
+        }
+        let used = join::join(&mut output, 0, file).1;
+        let mut more = vec![0; 2 * output.len()];
+        more[..output.len()].copy_from_slice(&output);
         self.note("barthovin_join", || {
-            join::join(bundle, 0, package);
+            join::join(&mut more, used, file);
         });
     }
 }
 
-/// The most that each entry took over so many generated bundles, and those of each kind.
+/// The most that each entry took over so many generated bundles, those of each kind, and as many generated ELF files of each class.
 pub fn of_entries(seed: u64, count: usize) -> Vec<Entry> {
     let mut entries = Vec::new();
     for bundle in bundles(seed, count) {
@@ -159,5 +194,9 @@ pub fn of_entries(seed: u64, count: usize) -> Vec<Entry> {
         measured.asking(&package);
         entries = measured.entries;
     }
-    entries
+    let (mut random, mut measured) = (Random::new(seed), Measured { entries, bundle: &[] });
+    for _ in 0..count {
+        Class::BOTH.iter().for_each(|class| measured.reading(&generate_elf(*class, &mut random)));
+    }
+    measured.entries
 }

@@ -14,7 +14,7 @@
  *   Memory that is only read may be lent twice.
  * - The processor is an x86-64, of any level.
  * - The stack has room. At most an entry takes, in bytes: barthovin_sheet 73728, barthovin_pack_small 28672, any other 8192. No entry
- *   calls itself. That of barthovin_verify is not measured yet.
+ *   calls itself.
  *
  * What work and output held before has no part in the answer. They need not be cleared before a call. Packing reads them before it
  * writes them, to store to no page that is zero already: valgrind then reports a jump that depends on uninitialised memory, and the answer

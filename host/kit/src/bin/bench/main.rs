@@ -3,11 +3,12 @@
 //!     bench page=FILE prose=FILE picture=FILE barthovin=FILE made=FOLDER strings=FILE [oracle=FILE]
 //!     bench one name=NAME [bytes=NUMBER] made=FOLDER [oracle=FILE]
 //!     bench sheet
+//!     bench stack
 //!
 //! The first writes the page, which is the prose with the figures of this run, and the picture. `barthovin` is the command, `made` the folder with the
 //! releases that `examples/real/make-releases` made, `strings` what `make string-index` wrote, and `oracle`
 //! the program that packs with thorin. Every package is compared with thorin's, byte for byte, where thorin is its measure. The second measures one
-//! row again, a release or a kind of bundle by its name on the page. The third times the sheet alone.
+//! row again, a release or a kind of bundle by its name on the page. The third times the sheet alone, the fourth measures the entries' stack.
 
 mod elves;
 mod hostile;
@@ -38,8 +39,11 @@ use tables::Growth;
 const LENGTHS: [usize; 4] = [1 << 19, 1 << 20, 1 << 21, 1 << 22];
 /// The last are as many as the longest bundle holds.
 const STRINGS: [u64; 4] = [24_960, 49_930, 99_860, 199_720];
+const MANY_STRINGS: (&str, &str) = ("many different strings", "strings");
 /// So many strings, of which the last is named so often.
 const LAST_OF: (u64, u64) = (5_000, 100_000);
+const ENTRIES_FOR_THE_LAST: (&str, &str) = ("100,000 entries for the last of 5,000 strings", "entries");
+const EXAMPLE: (&str, &str) = ("the one-unit example", "units");
 
 /// The stack of each entry is that of the bundles of all kinds and of so many generated ones.
 const SEED: u64 = 1;
@@ -98,11 +102,11 @@ fn measure_all(sources: &Sources, strings_file: Option<&str>) -> Result<Page> {
     });
     let kinds = kinds.collect::<Result<_>>()?;
     let strings = STRINGS.iter().map(|n| (many_strings(*n), *n));
-    let strings = growing(&mut bench, ("many different strings", "strings"), strings)?;
+    let strings = growing(&mut bench, MANY_STRINGS, strings)?;
     let instructions = STRINGS.iter().map(|n| instructions::of_packing(sources.barthovin, &many_strings(*n)));
-    let (name, (many, often)) = ("100,000 entries for the last of 5,000 strings", LAST_OF);
+    let (many, often) = LAST_OF;
     let last_of = std::iter::once((last_of_many_strings(many, often), often));
-    let last_of = growing(&mut bench, (name, "entries"), last_of)?;
+    let last_of = growing(&mut bench, ENTRIES_FOR_THE_LAST, last_of)?;
     let hostile = hostile::all(&mut bench)?;
     Ok(Page {
         thorin,
@@ -180,9 +184,8 @@ fn measure_one(words: &Words) -> Result<()> {
     if let Some(hostile) = HOSTILE.iter().find(|hostile| hostile.kind.name == name) {
         return hostile::grown(&mut bench, hostile).map(|grown| print!("{}", tables::hostile(&[grown])));
     }
-    let (items, measured) = if let Some(kind) = KINDS.iter().find(|kind| kind.name == name) {
-        let (bundle, count) = sized(kind, bytes);
-        (kind.items, bench.measure(&bundle, count)?)
+    let (items, measured) = if let Some((items, (bundle, count))) = generated(name, bytes) {
+        (items, bench.measure(&bundle, count)?)
     } else {
         let (found, _) = releases::all(&sources);
         let release = found.iter().find(|release| release.name == name);
@@ -190,7 +193,22 @@ fn measure_one(words: &Words) -> Result<()> {
         ("files", releases::packed(release, &mut bench)?.measured)
     };
     print!("{}{}", show::head(&tables::SIZES), tables::size(name, items, &measured));
+    measured.thorin.iter().for_each(|steps| println!("\nThe oracle's way back: {}.", show::time(steps.back)));
     Ok(())
+}
+
+/// A bundle of the tables of calls that no release makes, and how many of what it has: by its name, and its length where it has several.
+fn generated(name: &str, bytes: usize) -> Option<(&'static str, (Vec<u8>, u64))> {
+    let strings = || Some(STRINGS[LENGTHS.iter().position(|length| *length == bytes)?]);
+    if let Some(kind) = KINDS.iter().find(|kind| kind.name == name) {
+        Some((kind.items, sized(kind, bytes)))
+    } else if name == MANY_STRINGS.0 {
+        strings().map(|count| (MANY_STRINGS.1, (many_strings(count), count)))
+    } else if name == ENTRIES_FOR_THE_LAST.0 {
+        Some((ENTRIES_FOR_THE_LAST.1, (last_of_many_strings(LAST_OF.0, LAST_OF.1), LAST_OF.1)))
+    } else {
+        (name == EXAMPLE.0).then(|| (EXAMPLE.1, (example(), 1)))
+    }
 }
 
 fn main() -> Result<()> {
@@ -200,6 +218,10 @@ fn main() -> Result<()> {
         Some("one") => measure_one(&Words::read(&words[1..])?),
         Some("sheet") => {
             sheets::measured()?.rows().iter().for_each(|(name, took)| println!("{name}: {took:?}"));
+            Ok(())
+        }
+        Some("stack") => {
+            print!("{}", tables::stack(&kit::stack::of_entries(SEED, BUNDLES)));
             Ok(())
         }
         _ => write_all(&Words::read(&words)?),

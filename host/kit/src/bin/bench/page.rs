@@ -156,7 +156,7 @@ impl Page {
     fn rows(&self) -> Vec<(&str, &str, &Measured)> {
         let mut rows: Vec<(&str, &str, &Measured)> =
             self.releases.iter().map(|one| (one.name.as_str(), "files", &one.measured)).collect();
-        rows.push(("the one-unit example", "units", &self.small.0));
+        rows.push((super::EXAMPLE.0, super::EXAMPLE.1, &self.small.0));
         for kind in &self.kinds {
             rows.extend(kind.measured.iter().skip(1).step_by(2).map(|one| (kind.name, kind.items, one)));
         }

@@ -148,21 +148,34 @@ pub const LLVM: &str = "llvm-dwp";
 pub const CAT: &str = "cat";
 pub const TAR: &str = "tar";
 
-/// A program that is run again and again: the least of its times, and the most of its memory.
+/// A program that is run again and again.
 struct Runner {
     name: &'static str,
     program: Program,
     /// Where it writes a package.
     package: Option<PathBuf>,
-    ended: Option<Ended>,
+    /// Its runs, as long as they end well, and the first one that doesn't.
+    runs: Vec<Process>,
+    failed: Option<Ended>,
 }
 
-fn least(before: Process, now: Process) -> Process {
-    Process {
-        time: before.time.min(now.time),
-        clock: before.clock.min(now.clock),
-        kilobytes: before.kilobytes.max(now.kilobytes),
-    }
+/// How much longer another run may be that confirms a time.
+const NEAR: f64 = 1.2;
+
+/// The least time that another one confirms. The system has counted a fifth of a process's time once, so that the least alone is not to be trusted.
+fn least(mut times: Vec<Duration>) -> Option<Duration> {
+    times.sort();
+    let confirmed = times.windows(2).find(|two| two[1].as_secs_f64() <= NEAR * two[0].as_secs_f64());
+    confirmed.map(|two| two[0]).or(times.first().copied())
+}
+
+/// The least of the times of some runs, and the most of their memory.
+fn best(runs: &[Process]) -> Option<Process> {
+    Some(Process {
+        time: least(runs.iter().map(|run| run.time).collect())?,
+        clock: least(runs.iter().map(|run| run.clock).collect())?,
+        kilobytes: runs.iter().map(|run| run.kilobytes).max()?,
+    })
 }
 
 impl Runner {
@@ -170,7 +183,7 @@ impl Runner {
         let files = files.iter().map(String::as_str);
         let words = start.iter().copied().chain(files).chain(end.iter().copied()).map(str::to_string).collect();
         let program = Program { words, pages: Pages::Huge, prints_to: None };
-        Runner { name, program, package: None, ended: None }
+        Runner { name, program, package: None, runs: Vec::new(), failed: None }
     }
 
     fn writing(self, package: &Path) -> Runner {
@@ -192,14 +205,17 @@ impl Runner {
         for package in &self.package {
             let _ = fs::remove_file(package);
         }
-        self.ended = match (self.ended, &self.program) {
-            (Some(ended @ (Ended::Badly | Ended::Never(_))), _) => Some(ended),
-            (before, program) => match (before, program.run()?) {
-                (Some(Ended::Well(before)), Ended::Well(now)) => Some(Ended::Well(least(before, now))),
-                (_, ended) => Some(ended),
-            },
-        };
+        if self.failed.is_none() {
+            match self.program.run()? {
+                Ended::Well(process) => self.runs.push(process),
+                ended => self.failed = Some(ended),
+            }
+        }
         Ok(())
+    }
+
+    fn ended(&self) -> Option<Ended> {
+        self.failed.or(best(&self.runs).map(Ended::Well))
     }
 }
 
@@ -232,7 +248,7 @@ fn is_verified(sources: &Sources, package: &Path, files: &[String]) -> Result<bo
 }
 
 fn wrote(sources: &Sources, runner: &Runner, files: &[String]) -> Result<Wrote> {
-    let Some(package) = runner.package.as_ref().filter(|_| matches!(runner.ended, Some(Ended::Well(_)))) else {
+    let Some(package) = runner.package.as_ref().filter(|_| matches!(runner.ended(), Some(Ended::Well(_)))) else {
         return Ok(Wrote::NoPackage);
     };
     if is_verified(sources, package, files)? {
@@ -259,7 +275,7 @@ fn input(sources: &Sources, release: &Release, home: &Home) -> Result<Input> {
     }
     let ran = |runner: Runner| {
         let wrote = wrote(sources, &runner, &files)?;
-        let ended = runner.ended.ok_or_else(|| Error::other("no run"))?;
+        let ended = runner.ended().ok_or_else(|| Error::other("no run"))?;
         println!("{}: {}: {ended:?}, {wrote:?}", release.name, runner.name);
         Ok(Ran { program: runner.name, ended, wrote })
     };
@@ -276,13 +292,13 @@ fn input(sources: &Sources, release: &Release, home: &Home) -> Result<Input> {
 /// What a program that does nothing holds, as the launcher counts it: less can't be seen.
 pub fn floor() -> Result<Process> {
     let nothing = Program { words: vec!["true".to_string()], pages: Pages::Huge, prints_to: None };
-    let mut best: Option<Process> = None;
+    let mut runs = Vec::new();
     for _ in 0..RUNS {
         if let Ended::Well(process) = nothing.run()? {
-            best = Some(best.map_or(process, |before| least(before, process)));
+            runs.push(process);
         }
     }
-    best.ok_or_else(|| Error::other("`true` does not end well"))
+    best(&runs).ok_or_else(|| Error::other("`true` does not end well"))
 }
 
 /// The small inputs, and the releases.
@@ -325,4 +341,19 @@ pub fn packed(release: &Release, bench: &mut Bench) -> Result<Packed> {
     let (huge, small) = (huge?, small?);
     println!("{}: {} bytes, {:?}, {:?}", release.name, bundle.len(), measured.zeros, measured.thorin);
     Ok(Packed { name: release.name.clone(), measured, huge, small })
+}
+
+#[cfg(test)]
+mod tests {
+    use super::*;
+
+    #[test]
+    fn a_time_that_no_other_confirms_is_no_measure() {
+        let times = |milliseconds: &[u64]| milliseconds.iter().map(|t| Duration::from_millis(*t)).collect::<Vec<_>>();
+        assert_eq!(least(times(&[200, 35, 210, 230])), Some(Duration::from_millis(200)));
+        assert_eq!(least(times(&[210, 200])), Some(Duration::from_millis(200)));
+        // Where none confirms another, the least is all there is.
+        assert_eq!(least(times(&[10, 20, 40])), Some(Duration::from_millis(10)));
+        assert_eq!(least(Vec::new()), None);
+    }
 }
