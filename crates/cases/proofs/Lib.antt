@@ -1,0 +1,3 @@
+-- What the checks of this program are given, and facts on the slots and the length of an index.
+pub mod Sections
+pub mod Laws

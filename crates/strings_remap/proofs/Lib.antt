@@ -1,2 +1,0 @@
--- What the checks of this program are given.
-pub mod Sections
