@@ -1,6 +1,6 @@
 # `make help` lists what there is. `make test` is the gate: `rt ci`, which judges the layout of every Rattle file, every proof, must-fail edit and
-# program; then that every law of tools/laws.txt is proved, and the host's tests on the proved functions. Its last line is that of `rt ci`, and it stops
-# with an error where any step fails.
+# program; then that every law of tools/laws.txt is proved, that README lists the files which the laws and the C entries need, and the host's tests on the
+# proved functions. Its last line is that of `rt ci`, and it stops with an error where any step fails.
 
 # A program that packs bundles with thorin; it is built where it is and what it needs is at hand.
 ORACLE_SOURCE ?= ../shared/oracle
@@ -55,6 +55,7 @@ test:
 	end=$$(tail -n 1 "$$out" | sed -n 's/^\([0-9][0-9]* passed, 0 failed\)\( (.*)\)\{0,1\}$$/\1/p'); \
 	test -n "$$end" || { echo "rt ci does not end with 'N passed, 0 failed'" >&2; exit 1; }; \
 	tools/laws-proved "$$out" || exit 1; \
+	tools/believed || exit 1; \
 	rm -rf target/staticlib || exit 1; \
 	$(MAKE) --no-print-directory host || exit 1; \
 	echo "crates, edits and programs of rt ci:"; \

@@ -6,7 +6,8 @@ usage, at the top of the repository:
 
 An edit counts where the first thing that fails is the contract of a function, a law or a worked example. Where it is a bound, a sum that does not fit or what a
 callee requires, the program would be refused whatever the contract said: such an edit is listed under "look at" and gets no line. With --write each other edit
-gets the line '# Refused by ...' behind its comment, in place of an older one.
+gets the line '# Refused by ...' behind its comment, in place of an older one. Where what a callee requires is itself the promise that the edit breaks, the edit's
+own comment says so, in a line '# Refused by what ...' that was written by hand: it is told as it stands.
 """
 
 import os
@@ -76,6 +77,14 @@ def reason(crate, told):
     return f"the law `{name}` ({file})", None
 
 
+def text_of(path):
+    """The edit's text; an edit that is gone has none."""
+    if not os.path.isfile(path):
+        return ""
+    with open(path, encoding="utf-8") as file:
+        return file.read()
+
+
 def told_in(text, line):
     """The edit's text with this line behind its comment."""
     lines = [it for it in text.split("\n") if not it.startswith("# Refused by ")]
@@ -92,13 +101,15 @@ def main(words):
         crate, name, rest = it.groups()
         right, wrong = reason(crate, rest or "rt names no contract")
         path = f"crates/{crate}/must-fail/{name}"
-        if wrong:
+        by_hand = re.search(r"^# Refused by (what .*)", text_of(path), re.M)
+        if wrong and by_hand:
+            print(f"{crate}/{name}: {by_hand[1]}")
+        elif wrong:
             look.append(f"{crate}/{name}: {wrong}")
         else:
             print(f"{crate}/{name}: {right}")
         if not wrong and "--write" in words and os.path.isfile(path):
-            with open(path, encoding="utf-8") as file:
-                text = file.read()
+            text = text_of(path)
             with open(path, "w", encoding="utf-8") as file:
                 file.write(told_in(text, f"# Refused by {right}."))
     for it in look:

@@ -97,7 +97,8 @@ fn laid_out(name: &str) -> Home {
         fs::create_dir_all(home.join(&laws).parent().unwrap()).unwrap();
         fs::copy(format!("{ROOT}/{laws}"), home.join(&laws)).unwrap();
     }
-    for (tool, script) in [("rt", CHECKER), ("cargo", CARGO)] {
+    // What the laws need is looked up in all sources, which are not here.
+    for (tool, script) in [("rt", CHECKER), ("cargo", CARGO), ("believed", "#!/bin/sh\ntest ! -e list-lacks\n")] {
         fs::write(home.join("tools").join(tool), script).unwrap();
         fs::set_permissions(home.join("tools").join(tool), Permissions::from_mode(0o755)).unwrap();
     }
@@ -117,7 +118,7 @@ fn the_gates_end_counts_the_tests_of_the_host_too() {
     assert!(
         home.join("checked").exists() && told.find("41 passed").unwrap() < told.find("proving the packer").unwrap()
     );
-    for failing in ["cargo-fails", "checker-fails", "library-fails"] {
+    for failing in ["cargo-fails", "checker-fails", "library-fails", "list-lacks"] {
         fs::write(home.join(failing), "").unwrap();
         let output = make(&home, "test");
         assert!(status(&output) != 0 && !text(&output).contains("tests of the host: "), "{failing}");
