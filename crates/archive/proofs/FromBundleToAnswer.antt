@@ -9,12 +9,14 @@ use native.Mathlib.Omega.{arith}
 use lib.ListN.{length}
 use lib.Dec.{eqb}
 use borrow.Author.Tests.{eqb-false, ne_eqb}
+use Rattle.octets.specs.Octets.{part as bytes_at}
 use Rattle.octets.specs.Lists.{any}
 use Rattle.octets.proofs.Checks.{known, pass_inj, not_left, or_neither}
 use Rattle.octets.proofs.Lists.{any_stops}
 use Rattle.octets.proofs.Numbers.{Bytes}
 use Rattle.bundle.specs.Bundle.{Bundle}
 use Rattle.bundle.proofs.Every.{Every}
+use Rattle.strings.specs.Strings.{header_size}
 use Rattle.index.specs.Probing.{Probe, found, absent as nowhere, search}
 use Rattle.index.proofs.LawColumns.{form_of}
 use Rattle.index.proofs.LawLooks.{looks_of as looks_in, search_looks}
@@ -29,10 +31,11 @@ use Rattle.lookup.specs.Lookup.{refused, absent, part, has_version, version_good
 use Rattle.package.specs.Units.{FillObjects}
 use Rattle.package.proofs.Units.{filing_fills}
 use Rattle.archive.specs.Theorem as theorem
-use Rattle.archive.specs.Theorem.{IsHandedIn, IsFirst, slots_of_table, looks_of, looks, IsPart, Holds, AnswersAsHandedIn, FromBundleToAnswer}
+use Rattle.archive.specs.Theorem.{IsHandedIn, IsFirst, slots_of_table, looks_of, looks, IsPart, Holds, header_of, AnswersAsHandedIn, FromBundleToAnswer}
 use Rattle.archive.proofs.Contributing.{first_contributes}
 use Rattle.archive.proofs.NothingLost.{shared_sections, str_offsets_length, one_of_others, kept_units, kept_or_skipped}
 use Rattle.archive.proofs.Read.{rows_in, version_in}
+use Rattle.archive.proofs.Headers.{front_there}
 use Rattle.archive.proofs.Judged.{part_refused, string_refused, version_form, version_wrong}
 use Rattle.archive.proofs.Absences.{no_units, some_rows, opens, absent_is, absent_ends_law}
 use Rattle.archive.proofs.Tables.{the_tables}
@@ -84,9 +87,11 @@ module _ (b p : List ℕ) (a : Accepted b p) (h : Bytes b) where
       subst (Holds p (looked_up p v t x code) (looks b t x)) ((the_code b p a h v t x u q f code).handed n) (the_part b p a h v t x u q f code c)
 
   first_length : theorem.TheFirstUnitInLength b p
+  unfolding header_of
   first_length v t x u q f =
       let r = the_part b p a h v t x u q f 6 (record { from = omega arith; to = omega arith }) in
-      (r.0, r.1 ∙ ap (λ (n : ℕ). part r.0 n (looks b t x)) (the_code b p a h v t x u q f 6).long)
+      let c = the_code b p a h v t x u q f 6 in
+      (r.0, r.1 ∙ ap (λ (n : ℕ). part r.0 n (looks b t x)) c.long, subst (λ (s : List ℕ). bytes_at p r.0 (length s) ≡ s) (c.header refl) (front_there p c.bytes r.0 (header_size u.input.encoding) r.2))
 
   its_strings_law : theorem.ItsStrings b p
   its_strings_law v t x k u q f m = let r = the_string b p a h v t x u q f k m in (r.0, r.1, r.2)

@@ -2,6 +2,7 @@
 pub mod Examples
 pub mod Read
 pub mod Places
+pub mod Headers
 pub mod Units
 pub mod Judged
 pub mod StringPlaces
@@ -27,6 +28,7 @@ pub mod RoundTrip
 pub mod Unread
 pub mod Refusing
 pub mod Skipped
+pub mod FromFiles
 pub mod Clauses
 pub mod Bytes
 pub mod UsedOn

@@ -16,7 +16,7 @@ use Rattle.package.specs.Pack.{handed_in}
 use Rattle.package.proofs.Kept.{first_stands}
 use Rattle.lookup.specs.Lookup.{Found, refused, absent, part, looked_up, string_found}
 use Rattle.lookup.specs.Answers.{numbered}
-use Rattle.archive.specs.Theorem.{Asked, IsCode, IsHandedIn, IsFirst, handed_part, slots_of_table, looks, IsPart, Holds, AnswersAsHandedIn}
+use Rattle.archive.specs.Theorem.{Asked, IsCode, IsHandedIn, IsFirst, handed_part, header_of, slots_of_table, looks, IsPart, Holds, AnswersAsHandedIn}
 use Rattle.archive.specs.Question.{Looked, Told, ToldAbsent, PartTold, StringTold}
 use Rattle.archive.specs.Looks.{units_of}
 use Rattle.archive.specs.StrSection.{pieces, str_in}
@@ -65,12 +65,12 @@ module _ (b p : List ℕ) (t : AnswersAsHandedIn b p) (v table x : ℕ) (r : Fro
     not_both : r.code ≡ 0 → r.code ≡ 1 → ⊥
     not_both e f = omega arith
 
-    in_length : (u : Filed) → Asked b v table → IsFirst b table x u → code ≡ 6 → (r.code ≡ 0) × (r.length ≡ length (handed_part u 6)) × (r.looks ≡ looks b table x)
+    in_length : (u : Filed) → Asked b v table → IsFirst b table x u → code ≡ 6 → (r.code ≡ 0) × (r.length ≡ length (handed_part u 6)) × (r.looks ≡ looks b table x) × (bytes_at p r.start (length (header_of u)) ≡ header_of u)
     unfolding numbered
     in_length u q f six =
         let e = t.the_first_unit_in_length v table x u q f in
         let k : Looked r (part e.0 (length (handed_part u 6)) (looks b table x)) = subst (Looked r) (ap (looked_up p v table x) six ∙ e.1) l in
-        (k.code, k.many, k.looked)
+        (k.code, k.many, k.looked, rw (k.start) e.2)
 
     few : (r.code ≡ 0 → r.looks ≤ units_of p table) × (r.looks ≤ units_of p table + 1)
     few = few_told p r _ _ l (λ s z n. (t.finding_takes v table x code 0 s z n).0) (λ n. (t.absence_takes v table x code 0 n).0)

@@ -7,7 +7,7 @@ use mathlib.Core.Option.{Option, some, none}
 use Prim.Native.Nat.{ℕ, ◌+◌, ◌<◌, ◌≤◌}
 use native.Mathlib.Omega.{arith}
 use lib.Dec.{eqb, leb}
-use lib.ListN.{length, get_or, length-append}
+use lib.ListN.{length, get_or, take, length-append}
 use lib.Seq.{get_or-append_seam}
 use borrow.Author.Tests.{eqb-true, eqb-false, eq-eqb, ne_eqb, le-leb, leb-true}
 use Rattle.octets.specs.Octets.{part as bytes_at}
@@ -16,9 +16,11 @@ use Rattle.octets.proofs.Checks.{known}
 use Rattle.octets.proofs.Numbers.{Bytes}
 use Rattle.octets.proofs.Parts.{length_part}
 use Rattle.bundle.specs.Bundle.{Object}
+use Rattle.bundle.specs.Encoding.{Encoding}
 use Rattle.bundle.proofs.Every.{Every}
 use Rattle.bundle.proofs.RoundTrip.{parts_from}
 use Rattle.bundle.proofs.WrittenParts.{bytes_in}
+use Rattle.strings.specs.Strings.{header_size}
 use Rattle.index.specs.Index.{Contribution, cell_of}
 use Rattle.index.specs.Rows.{shared}
 use Rattle.index.specs.Written.{Row}
@@ -43,6 +45,7 @@ use Rattle.lookup.specs.Lookup.{cell_place}
 use Rattle.archive.specs.Theorem.{handed_part}
 use Rattle.archive.proofs.Read.{rows_in, version_in}
 use Rattle.archive.proofs.Places.{PlaceOf, place_own, place_not}
+use Rattle.archive.proofs.Headers.{Pieced, header_kept, kept_pieced}
 
 -- ---- what is handed in, by cases
 part_home : (u : Filed) (c : ℕ) → c ≡ u.home → handed_part u c ≡ u.bytes
@@ -153,12 +156,23 @@ module _ (b p : List ℕ) (a : Accepted b p) (h : Bytes b) (o : Object) (os : Li
     pub place : PlaceOf p (cell_place (parts_from 8 (sections_of b p a)) c (cell_of (written (version_in a) (rows_in a t) i.slots) (length (rows_of xs t) + 1) c)) bytes
     pub long : length bytes ≡ length (handed_part u c)
     pub handed : (c ≡ 6 → ⊥) → bytes ≡ handed_part u c
+    pub header : c ≡ 6 → take (header_size u.input.encoding) bytes ≡ take (header_size u.input.encoding) (handed_part u c)
+
+  -- the header of what it contributes of str_offsets
+  shared_header : (c : ℕ) (d : Contribution) → c ≡ 6 → u.contributions c ≡ some d
+      → take (header_size u.input.encoding) (bytes_at (given strings c u.input) d.offset d.size) ≡ take (header_size u.input.encoding) (bytes_at (u.input.bytes c) d.offset d.size)
+  shared_header c d z =
+      subst (λ (k : ℕ). u.contributions k ≡ some d → take (header_size u.input.encoding) (bytes_at (given strings k u.input) d.offset d.size) ≡ take (header_size u.input.encoding) (bytes_at (u.input.bytes k) d.offset d.size))
+      (sym z)
+      (subst (λ (e : Encoding). u.contributions 6 ≡ some d → take (header_size e) (bytes_at (given strings 6 u.input) d.offset d.size) ≡ take (header_size e) (bytes_at (u.input.bytes 6) d.offset d.size))
+      (sym good.object.encoded)
+      (header_kept (encoding_in b p a h) strings u good (each_middle xs u ys (subst (Every Pieced) stands (kept_pieced b p a))) d))
 
   pub at_code : (c : ℕ) → AtCode c
   at_code c = ⊎_elim
       (λ (z : eqb c u.home ≡ true).
       let e = eqb-true c u.home z in
-      record { bytes = u.bytes; place = subst (λ (d : ℕ). Lying d u.bytes) (sym e) own_place; long = ap length (sym (part_home u c e)); handed = λ n. sym (part_home u c e) })
+      record { bytes = u.bytes; place = subst (λ (d : ℕ). Lying d u.bytes) (sym e) own_place; long = ap length (sym (part_home u c e)); handed = λ n. sym (part_home u c e); header = λ n. ap (take (header_size u.input.encoding)) (sym (part_home u c e)) })
       (λ (z : eqb c u.home ≡ false). from (eqb-false c u.home z) (u.contributions c) refl)
       (known (eqb c u.home))
     where
@@ -170,5 +184,6 @@ module _ (b p : List ℕ) (a : Accepted b p) (h : Bytes b) (o : Object) (os : Li
             place = shared_place c d n r;
             long = given_length c d r ∙ ap length (sym same);
             handed = λ m. ap (λ (l : List ℕ). bytes_at l d.offset d.size) (given_bytes strings c u.input m) ∙ sym (part_contributed u c d r) ∙ sym same;
+            header = λ m. shared_header c d m r ∙ ap (take (header_size u.input.encoding)) (sym (part_contributed u c d r) ∙ sym same);
           }
-      from n none r = record { bytes = []; place = none_place c n r; long = ap length (sym (part_nothing u c n r)); handed = λ m. sym (part_nothing u c n r) }
+      from n none r = record { bytes = []; place = none_place c n r; long = ap length (sym (part_nothing u c n r)); handed = λ m. sym (part_nothing u c n r); header = λ m. ap (take (header_size u.input.encoding)) (sym (part_nothing u c n r)) }

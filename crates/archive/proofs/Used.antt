@@ -1,7 +1,7 @@
 -- Every clause of the theorem, used.
 use mathlib.Core.Path.{◌≡◌, refl, sym, ap, ◌∙◌, subst}
 use mathlib.Core.Logic.{◌⊎◌, inl, inr}
-use mathlib.Core.List.{[], ◌∷◌}
+use mathlib.Core.List.{List, [], ◌∷◌}
 use mathlib.Core.Option.{some}
 use Prim.Native.Nat.{ℕ, ◌≤◌}
 use native.Mathlib.Omega.{arith}
@@ -78,7 +78,7 @@ used = record {
       (r.the_first_unit 5 2 7 1 first_type (asked 2 (omega arith) (omega arith)) (code 1 (omega arith) (omega arith)) type_first (λ e. omega arith)));
   in_length =
       (let e = r.the_first_unit_in_length 5 1 1 compilation (asked 1 (omega arith) (omega arith)) compilation_first in
-      (e.0, e.1 ∙ ap (λ (n : ℕ). part e.0 n (looks bundle 1 1)) computed.part_six ∙ ap (part e.0 16) computed.looks_one));
+      (e.0, e.1 ∙ ap (λ (n : ℕ). part e.0 n (looks bundle 1 1)) computed.part_six ∙ ap (part e.0 16) computed.looks_one, subst (λ (s : List ℕ). bytes_at whole_package e.0 (length s) ≡ s) computed.its_header e.2));
   its_string =
       (let e = r.its_strings 5 1 1 0 compilation (asked 1 (omega arith) (omega arith)) compilation_first (omega (arith, computed.two_entries)) in
       let b : e.0 ≡ 98 ∷ [] = pass_inj (sym e.1 ∙ computed.string_b) in

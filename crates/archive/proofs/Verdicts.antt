@@ -75,10 +75,14 @@ module _ (b : List ℕ) (w o : ℕ) (p : List ℕ) (v : ℕ) (q : List ℕ) (e :
   }
 
 -- ---- none was made
+-- the number of a refusal isn't 0
+pub refuses_some : (b : List ℕ) (w o n : ℕ) → packed b w o ≡ refused n → n ≡ 0 → ⊥
+refuses_some b w o n e z = ⊎_elim (λ r. omega (arith, z, r.0)) (λ r. ⊎_elim (λ s. omega (arith, z, s)) (λ s. omega (arith, z, s)) r) (packed_refuses b w o n e)
+
 module _ (b : List ℕ) (w o : ℕ) (p : List ℕ) (v : ℕ) where
   refused_verdict : (m : ℕ) → packed b w o ≡ refused m → VerdictIs b w o p v (refusal m 0)
   refused_verdict m e = record {
-    yes = λ z. absurd (⊎_elim (λ r. omega (arith, z, r.0)) (λ r. ⊎_elim (λ s. omega (arith, z, s)) (λ s. omega (arith, z, s)) r) (packed_refuses b w o m e));
+    yes = λ z. absurd (refuses_some b w o m e z);
     own = λ f. absurd (let g : refused m ≡ made p = sym e ∙ f in let z : ◌≡◌ {A = ℕ} 0 1 = cc in omega arith);
     judged = λ q f. absurd (let g : refused m ≡ made q = sym e ∙ f in let z : ◌≡◌ {A = ℕ} 0 1 = cc in omega arith);
     not_packed = λ n f. (let g : refused m ≡ refused n = sym e ∙ f in let z : m ≡ n = cc in ap (λ (k : ℕ). refusal k 0) z);

@@ -1,15 +1,15 @@
 -- A package that answers as the package of a bundle does answers with what was handed in.
 use mathlib.Core.Path.{◌≡◌, refl, sym, ap, ◌∙◌, subst}
 use mathlib.Core.Logic.{◌⊎◌, ⊎_elim}
-use mathlib.Core.Bool.{true, ◌||◌, ◌&&◌}
+use mathlib.Core.Bool.{true, false, ◌||◌, ◌&&◌}
 use mathlib.Core.List.{List, []}
 use mathlib.Core.Option.{some}
 use Prim.Native.Nat.{ℕ, ◌+◌, ◌-◌, ◌/◌, ◌<◌, ◌≤◌}
-use lib.Dec.{eqb}
+use lib.Dec.{eqb, leb}
 use native.Mathlib.Omega.{arith}
 use lib.ListN.{length}
 use borrow.Author.Tests.{eqb-true, ltb-true, ne_eqb}
-use Rattle.std.specs.Prelude.{Some, Err}
+use Rattle.std.specs.Prelude.{Some, Err, if◌then◌else◌}
 use Rattle.numbers.specs.Refused.{number_of}
 use Rattle.answers.specs.Outcome as outcome
 use Rattle.answers.specs.Outcome.{outcome_of, outcome_as}
@@ -19,15 +19,18 @@ use Rattle.numbers.specs.Tables.{dwarf4, dwarf5}
 use Rattle.octets.specs.Octets.{part as bytes_at}
 use Rattle.octets.specs.Lists.{same}
 use Rattle.octets.specs.Checked.{Check, pass, refuse}
-use Rattle.octets.proofs.Checks.{pass_inj, true_false, require_pass, and_left, and_right, or_cases}
+use Rattle.octets.proofs.Checks.{pass_inj, true_false, known, require_pass, and_left, and_right, or_cases}
 use Rattle.octets.proofs.Lists.{same_eq, same_both}
+use Rattle.octets.proofs.Numbers.{Bytes}
 use Rattle.octets.proofs.Parts.{length_part}
 use Rattle.index.specs.Held.{Well}
 use Rattle.index.specs.Probing.{probe}
 use Rattle.index.proofs.Ends.{found_row, search_used}
 use Rattle.bundle.specs.Bundle.{Bundle, bundle_of, body}
 use Rattle.bundle.specs.Encoding.{Encoding, encoding_of, encoding_good}
-use Rattle.package.specs.Filing.{first_word}
+use Rattle.bundle.specs.declared.encoding.ObjectEncoding.{ObjectEncoding}
+use Rattle.strings.specs.Strings.{header_size}
+use Rattle.package.specs.Filing.{Filed, first_word}
 use Rattle.package.specs.Pack.{Answer, packed, made}
 use Rattle.lookup.specs.Lookup.{Found, refused, absent, part, Package, Place, package_of, index_for, entries_start, string_place, looked_up, string_found}
 use Rattle.lookup.specs.Answers.{coded, found_in, package_in, index_code}
@@ -35,12 +38,17 @@ use Rattle.lookup.proofs.Known.{index_known}
 use Rattle.lookup.specs.declared.searching.Located.{Located}
 use Rattle.lookup.proofs.Bounds.{part_named, part_inside, string_inside}
 use Rattle.lookup.proofs.Lookups.{strung_encoding, strung_failed}
-use Rattle.agreement.specs.Agreement.{place_of, same_at, same_offsets, section_agrees, string_agrees, entries_within, UnitAgrees, TableAgrees, Agrees}
-use Rattle.archive.specs.Theorem.{AreBytes, handed_part}
+use Rattle.agreement.specs.Agreement.{place_of, same_at, header_size as stated_size, header_within, same_offsets, section_agrees, string_agrees, entries_within, UnitAgrees, TableAgrees, Agrees}
+use Rattle.archive.specs.Theorem.{Asked, IsFirst, AnswersAsHandedIn, AreBytes, handed_part, header_of}
 use Rattle.agreement.proofs.Tables.{encodings_same}
-use Rattle.archive.specs.Verified.{Holding, Verified, VerifiedAnswers}
-use Rattle.package.proofs.Accepted.{packed_accepted}
+use Rattle.archive.specs.Verified.{Holding, HasUnit, Verified, VerifiedAnswers}
+use Rattle.package.proofs.Accepted.{Accepted, packed_accepted}
+use Rattle.package.proofs.Tables.{encoding_in}
+use Rattle.package.proofs.UnitStrings.{good_widths}
 use Rattle.archive.proofs.Absences.{opens}
+use Rattle.archive.proofs.Headers.{take_short, front_of, header_sizes}
+use Rattle.archive.proofs.Units.{good}
+use Rattle.archive.proofs.Firsts.{s as stands}
 use Rattle.archive.proofs.FromBundleToAnswer.{from_bundle_to_answer}
 
 -- ---- the package that was read is the one that the code has
@@ -90,11 +98,39 @@ holding p q bytes (part a n l) start looks inside h e =
 holding p q bytes (absent l) start looks inside h e = absurd (true_false e refl)
 holding p q bytes (refused r) start looks inside h e = absurd (true_false e refl)
 
-long : (p q : List ℕ) (v : ℕ) (f : Found) (start size looks : ℕ) → same_offsets p q v (place_of f) (place_of (part start size looks)) ≡ true → (a : ℕ) × (l : ℕ) × (f ≡ part a size l)
+-- as long, and the same bytes in front of the entries
+long : (p q : List ℕ) (v : ℕ) (f : Found) (start size looks : ℕ) → same_offsets p q v (place_of f) (place_of (part start size looks)) ≡ true
+    → (header : List ℕ) → length header ≤ header_within q v (record { start = start; size = size }) → bytes_at q start (length header) ≡ header
+    → (a : ℕ) × (l : ℕ) × (f ≡ part a size l) × (bytes_at p a (length header) ≡ header)
 unfolding place_of
-long p q v (part a n l) start size looks e = (a, l, ap (λ (z : ℕ). part a z l) (eqb-true n size (and_left (eqb n size) _ e)))
-long p q v (absent l) start size looks e = absurd (true_false e refl)
-long p q v (refused r) start size looks e = absurd (true_false e refl)
+long p q v (part a n l) start size looks e header h there =
+    let within = header_within q v (record { start = start; size = size }) in
+    let front : bytes_at p a within ≡ bytes_at q start within = same_eq _ _ (and_right (eqb n size) _ e) in
+    let m = length header in (
+      a,
+      l,
+      ap (λ (z : ℕ). part a z l) (eqb-true n size (and_left (eqb n size) _ e)),
+      front_of p a within m h ∙ ap (λ (z : List ℕ). bytes_at z 0 m) front ∙ sym (front_of q start within m h) ∙ there,
+    )
+long p q v (absent l) start size looks e header h there = absurd (true_false e refl)
+long p q v (refused r) start size looks e header h there = absurd (true_false e refl)
+
+-- the header of what was handed in lies in front of the entries, as its package states their width
+smaller : (m n size : ℕ) → m ≤ n → m ≤ size → m ≤ (if leb n size then n else size)
+smaller m n size h g = ⊎_elim (λ (t : leb n size ≡ true). rw t h) (λ (t : leb n size ≡ false). rw t g) (known (leb n size))
+
+header_long : (b q : List ℕ) (a : Accepted b q) → (h : Bytes b) → (v table x : ℕ) (u : Filed) → Asked b v table → IsFirst b table x u
+    → (start : ℕ) → length (header_of u) ≤ header_within q v (record { start = start; size = length (handed_part u 6) })
+unfolding header_of encoding_of
+header_long b q a h v table x u asked first start =
+    let s = stands b q a h v table x u asked first in
+    let e = encoding_in b q a h in
+    let g = good b q a h s.o s.os s.objects table s.i s.xs u s.ys s.stands s.own in
+    let states : coded (package_in q).encoding ≡ coded e = ap (λ (k : Package). coded k.encoding) (package_is q s.k s.read) ∙ ap coded s.encoding in
+    let size : header_size u.input.encoding ≡ stated_size v (coded (package_in q).encoding).wide
+    = ap header_size g.object.encoded ∙ header_sizes e v (good_widths e g.object.good) s.form ∙ ap (λ (c : ObjectEncoding). stated_size v c.wide) (sym states) in
+    let short = take_short (header_size u.input.encoding) (handed_part u 6) in
+    smaller (length (header_of u)) (stated_size v (coded (package_in q).encoding).wide) (length (handed_part u 6)) (let h : length (header_of u) ≤ header_size u.input.encoding = short.0 in omega (arith, size)) short.1
 
 -- ---- one section of a unit
 section_same : (p q : List ℕ) (v table x code : ℕ) → (code ≡ 6 → ⊥) → section_agrees p q v table x code ≡ true
@@ -151,30 +187,39 @@ string_same : (p q : List ℕ) (v table x k a m l : ℕ) → string_found q v ta
 unfolding string_agrees place_of
 string_same p q v table x k a m l f e = rw f at e
 
+-- a unit of the package q of b, which p answers for as q does
+module _ (b : List ℕ) (w o : ℕ) (q p : List ℕ) (v : ℕ) (h : AreBytes b) (e : packed b w o ≡ made q) (g : Agrees p q v) (table x : ℕ) (u : Filed)
+    (asked : Asked b v table) (first : IsFirst b table x u) where
+  abbrev theorem : AnswersAsHandedIn b q
+  theorem = from_bundle_to_answer b w o q h e
+
+  has_unit : HasUnit p v table x u
+  has_unit = record {
+    parts = λ code is other.
+        let (start, f, bytes) = theorem.the_first_unit v table x code u asked is first other in
+        let unit = compared p q v g table x asked.tables _ _ _ code f in
+        let s = section_same p q v table x code other (unit.sections code is.from (let t = is.to in omega arith)) in
+        holding p q (handed_part u code) (looked_up p v table x code) start _ (λ a n l z. part_inside p v table x a n l code z) bytes (rw f at s);
+    offsets =
+        (let (start, f, header) = theorem.the_first_unit_in_length v table x u asked first in
+        let unit = compared p q v g table x asked.tables _ _ _ 6 f in
+        let s = section_long p q v table x (unit.sections 6 (omega arith) (omega arith)) in
+        long p q v (looked_up p v table x 6) start _ _ (rw f at s) (header_of u) (header_long b q (packed_accepted b w o q e) h v table x u asked first start) header);
+    strings = λ k few.
+        let (string, is, found_there) = theorem.its_strings v table x k u asked first few in
+        let (start, f, bytes) = found_there in
+        let (offsets, g6, header) = theorem.the_first_unit_in_length v table x u asked first in
+        let unit = compared p q v g table x asked.tables _ _ _ 6 g6 in
+        let inside = entries_at (looked_up q v table x 6) offsets _ _ k g6 (within q v table x k offsets _ _ g6 _ _ _ f) in
+        let s = string_same p q v table x k _ _ _ f (unit.strings k inside) in
+        (string, is, holding p q string (string_found p v table x k) start _ (λ a n l z. string_inside p v table x a n l k z) bytes s);
+  }
+
 pub verified_answers : VerifiedAnswers
-verified_answers b w o q p v h e g =
-    let d = from_bundle_to_answer b w o q h e in
-    record {
-      encoding = λ k f any. encodings_same _ _ g.encoding ∙ own_encoding b w o q h e k f any;
-      parts = λ table x code u asked is first other.
-          let (start, f, bytes) = d.the_first_unit v table x code u asked is first other in
-          let unit = compared p q v g table x asked.tables _ _ _ code f in
-          let s = section_same p q v table x code other (unit.sections code is.from (let t = is.to in omega arith)) in
-          holding p q (handed_part u code) (looked_up p v table x code) start _ (λ a n l z. part_inside p v table x a n l code z) bytes (rw f at s);
-      offsets = λ table x u asked first.
-          let (start, f) = d.the_first_unit_in_length v table x u asked first in
-          let unit = compared p q v g table x asked.tables _ _ _ 6 f in
-          let s = section_long p q v table x (unit.sections 6 (omega arith) (omega arith)) in
-          long p q v (looked_up p v table x 6) start _ _ (rw f at s);
-      strings = λ table x k u asked first few.
-          let (string, is, found_there) = d.its_strings v table x k u asked first few in
-          let (start, f, bytes) = found_there in
-          let (offsets, g6) = d.the_first_unit_in_length v table x u asked first in
-          let unit = compared p q v g table x asked.tables _ _ _ 6 g6 in
-          let inside = entries_at (looked_up q v table x 6) offsets _ _ k g6 (within q v table x k offsets _ _ g6 _ _ _ f) in
-          let s = string_same p q v table x k _ _ _ f (unit.strings k inside) in
-          (string, is, holding p q string (string_found p v table x k) start _ (λ a n l z. string_inside p v table x a n l k z) bytes s);
-    }
+verified_answers b w o q p v h e g = record {
+  encoding = λ k f any. encodings_same _ _ g.encoding ∙ own_encoding b w o q h e k f any;
+  units = has_unit b w o q p v h e g;
+}
 
 -- ---- the package of the bundle itself
 pub verified_own : (b : List ℕ) (w o : ℕ) (q : List ℕ) (v : ℕ) → AreBytes b → packed b w o ≡ made q → Verified b q v
@@ -182,16 +227,18 @@ verified_own b w o q v h e =
     let d = from_bundle_to_answer b w o q h e in
     record {
       encoding = λ k f any. own_encoding b w o q h e k f any;
-      parts = λ table x code u asked is first other.
-          let (start, f, bytes) = d.the_first_unit v table x code u asked is first other in
-          (start, _, f, bytes);
-      offsets = λ table x u asked first.
-          let (start, f) = d.the_first_unit_in_length v table x u asked first in
-          (start, _, f);
-      strings = λ table x k u asked first few.
-          let (string, is, found_there) = d.its_strings v table x k u asked first few in
-          let (start, f, bytes) = found_there in
-          (string, is, (start, _, f, bytes));
+      units = λ table x u asked first. record {
+        parts = λ code is other.
+            let (start, f, bytes) = d.the_first_unit v table x code u asked is first other in
+            (start, _, f, bytes);
+        offsets =
+            (let (start, f, header) = d.the_first_unit_in_length v table x u asked first in
+            (start, _, f, header));
+        strings = λ k few.
+            let (string, is, found_there) = d.its_strings v table x k u asked first few in
+            let (start, f, bytes) = found_there in
+            (string, is, (start, _, f, bytes));
+      };
     }
 
 pub same_own : (s t : List ℕ) → s ≡ t → same s t ≡ true

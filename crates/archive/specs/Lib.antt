@@ -17,3 +17,4 @@ pub mod Used
 pub mod Applied
 pub mod Verified
 pub mod Compared
+pub mod FromFiles

@@ -12,7 +12,7 @@ use Rattle.package.specs.Pack.{Answer, refused, short, made, packed, handed_in}
 use Rattle.package.specs.Units.{IsUnit}
 use Rattle.lookup.specs.Lookup.{Found, looked_up, string_found}
 use Rattle.lookup.specs.Answers.{numbered}
-use Rattle.archive.specs.Theorem.{Asked, IsCode, IsHandedIn, IsFirst, handed_part, is_index_version, slots_of_table, looks, TableIn, EndsUnused}
+use Rattle.archive.specs.Theorem.{Asked, IsCode, IsHandedIn, IsFirst, handed_part, header_of, is_index_version, slots_of_table, looks, TableIn, EndsUnused}
 use Rattle.archive.specs.Looks.{units_of}
 use Rattle.archive.specs.StrSection.{pieces, str_in}
 use Rattle.archive.specs.declared.asking.FromBundle.{FromBundle}
@@ -46,7 +46,7 @@ pub record PartTold (b p : List ℕ) (v table x code : ℕ) (r : FromBundle) : T
   pub found_exactly_when_handed_in : Asked b v table → IsCode code → (r.code ≡ 0) ↔ IsHandedIn b table x
   pub the_first_unit : (u : Filed) → Asked b v table → IsCode code → IsFirst b table x u → (code ≡ str_offsets_code → ⊥) → Told p r (looks b table x) (handed_part u code)
   pub the_first_unit_in_length : (u : Filed) → Asked b v table → IsFirst b table x u → code ≡ str_offsets_code
-      → (r.code ≡ 0) × (r.length ≡ length (handed_part u str_offsets_code)) × (r.looks ≡ looks b table x)
+      → (r.code ≡ 0) × (r.length ≡ length (handed_part u str_offsets_code)) × (r.looks ≡ looks b table x) × (bytes_at p r.start (length (header_of u)) ≡ header_of u)
   pub absent_is_absent : Asked b v table → IsCode code → any (is_under table x) (handed_in b) ≡ false → ToldAbsent r (looks b table x)
   pub absent_ends : Asked b v table → any (is_under table x) (handed_in b) ≡ false → EndsUnused b table x
   pub looks_at_most_slots : Asked b v table → IsCode code → r.looks ≤ length (slots_of_table b table).rows

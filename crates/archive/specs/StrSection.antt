@@ -1,5 +1,5 @@
 -- The str section of a package, as a reader holds it, cut after each zero byte.
-use Rattle.std.specs.Prelude.{true, false, List, [], ◌∷◌, ℕ, ◌==◌, if◌then◌else◌}
+use Rattle.std.specs.Prelude.{List, [], ◌∷◌, ℕ, ◌==◌, if◌then◌else◌}
 use Rattle.numbers.specs.Sections.{str_code}
 use Rattle.octets.specs.Checked.{pass, refuse, ◌>>=◌}
 use Rattle.bundle.specs.Bundle.{bundle_of, body}

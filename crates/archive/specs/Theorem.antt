@@ -1,6 +1,6 @@
 -- The theorem: one claim, from the bundle that is packed to the answers of lookups in its package (FORMAT 7.7).
 -- b is a bundle that packing accepts, p its package; every answer of both lookups on p is told from the units handed in with b.
-use Rattle.std.specs.Prelude.{◌≡◌, ◌⊎◌, ◌↔◌, Bool, true, false, ◌||◌, List, [], ◌∷◌, ◌++◌, map, ℕ, ◌+◌, ◌*◌, ◌-◌, ◌%◌, ◌≤◌, ◌<◌, length, ◌==◌, nat_le, slice_index, slice_index_or, if◌then◌else◌}
+use Rattle.std.specs.Prelude.{◌≡◌, ◌⊎◌, ◌↔◌, Bool, true, false, ◌||◌, List, [], ◌∷◌, ◌++◌, map, ℕ, ◌+◌, ◌*◌, ◌-◌, ◌%◌, ◌≤◌, ◌<◌, length, take, ◌==◌, nat_le, slice_index, slice_index_or, if◌then◌else◌}
 use Rattle.std.proofs.Math.Option.{Option, some, none}
 use Rattle.numbers.specs.Tables.{compilation_table, type_table, dwarf5, index2, index5}
 use Rattle.numbers.specs.Sections.{str_offsets_code, str_code, first_shared, last_shared}
@@ -9,7 +9,7 @@ use Rattle.octets.specs.Octets.{part as bytes_at}
 use Rattle.octets.specs.Lists.{any, those}
 use Rattle.octets.specs.Checked.{pass, refuse}
 use Rattle.bundle.specs.Bundle.{Object, Bundle, bundle_of}
-use Rattle.strings.specs.Strings.{string_at, ended, first_uses}
+use Rattle.strings.specs.Strings.{header_size, string_at, ended, first_uses}
 use Rattle.index.specs.Index.{Index}
 use Rattle.index.specs.Probing.{Probe, found, absent as nowhere, Slots, slots_of, search, first_slot, stride}
 use Rattle.package.specs.Filing.{Filed, is_under, first_word, kept, contributed, entries_of_unit}
@@ -49,20 +49,28 @@ IsHandedIn b table x = any (is_under table x) (handed_in b) ≡ true
 unfoldable pub is_for : ℕ → Filed → Bool
 is_for table u = u.table == table
 
--- the first unit in the bundle for its table and identity, which is the kept one
-pub record IsFirst (b : List ℕ) (table x : ℕ) (u : Filed) : Type 0 where
+-- the first of some units for its table and identity
+pub record FirstOf (us : List Filed) (table x : ℕ) (u : Filed) : Type 0 where
   pub before : List Filed
   pub behind : List Filed
-  pub stands : handed_in b ≡ before ++ (u ∷ behind)
+  pub stands : us ≡ before ++ (u ∷ behind)
   pub under : is_under table x u ≡ true
   pub none_before : any (is_under table x) before ≡ false
 
+-- the first one in the bundle, which is the kept one
+abbrev pub IsFirst : List ℕ → ℕ → ℕ → Filed → Type 0
+IsFirst b = FirstOf (handed_in b)
+
 -- what a unit has under a section code: its own bytes under that of the section it stood in, its contribution under a shared one, else nothing.
--- Of str_offsets `TheFirstUnitInLength` takes the length alone, since the package has other values there.
+-- Of str_offsets `TheFirstUnitInLength` takes the length and the header alone, since the package has other values behind it.
 unfoldable pub handed_part : Filed → ℕ → List ℕ
 handed_part u code = if code == u.home
     then u.bytes
     else if nat_le first_shared code then contributed u code else []
+
+-- the header of its part of str_offsets: in version 5 the two widths in front of the entries, in version 4 nothing
+unfoldable pub header_of : Filed → List ℕ
+header_of u = take (header_size u.input.encoding) (handed_part u str_offsets_code)
 
 -- ---- probing
 -- the identities placed in a table: those of its kept units, in order
@@ -128,7 +136,7 @@ abbrev pub FoundExactlyWhenHandedIn : List ℕ → List ℕ → Type 0
 FoundExactlyWhenHandedIn b p =
     (v table x code : ℕ) → Asked b v table → IsCode code → IsPart (looked_up p v table x code) (looks b table x) ↔ IsHandedIn b table x
 
--- what is found is the first such unit: its bytes and its parts; of str_offsets the length
+-- what is found is the first such unit: its bytes and its parts; of str_offsets the length and the header
 abbrev pub TheFirstUnit : List ℕ → List ℕ → Type 0
 TheFirstUnit b p =
     (v table x code : ℕ) (u : Filed) → Asked b v table → IsCode code → IsFirst b table x u → (code ≡ str_offsets_code → ⊥)
@@ -138,6 +146,7 @@ abbrev pub TheFirstUnitInLength : List ℕ → List ℕ → Type 0
 TheFirstUnitInLength b p =
     (v table x : ℕ) (u : Filed) → Asked b v table → IsFirst b table x u
     → (start : ℕ) × (looked_up p v table x str_offsets_code ≡ part start (length (handed_part u str_offsets_code)) (looks b table x))
+    × (bytes_at p start (length (header_of u)) ≡ header_of u)
 
 -- string k is the one that entry k of the unit's part named in its own object. In version 5 a header is in that part, and entry 0 follows it
 abbrev pub ItsStrings : List ℕ → List ℕ → Type 0

@@ -1,5 +1,5 @@
 -- Every clause of the theorem, used of one small bundle: what it says there, worked out.
-use Rattle.std.specs.Prelude.{◌≡◌, ◌⊎◌, true, false, List, [], ◌∷◌, ℕ, ◌+◌, ◌≤◌, ◌<◌, length, get_or, if◌then◌else◌}
+use Rattle.std.specs.Prelude.{◌≡◌, ◌⊎◌, false, List, [], ◌∷◌, ℕ, ◌+◌, ◌≤◌, ◌<◌, length, get_or, if◌then◌else◌}
 use Rattle.std.proofs.Math.Option.{Option, some, none}
 use Rattle.numbers.specs.Refusals.{other_version, no_entry}
 use Rattle.octets.specs.Octets.{numbers_of, part as bytes_at}
@@ -138,7 +138,7 @@ pub record EveryClauseUsed : Type 0 where
   pub type_table : TableIn bundle whole_package 2
   pub is_found : IsPart (looked_up whole_package 5 1 1 3) 1
   pub its_bytes : Holds whole_package (looked_up whole_package 5 2 7 1) 1 (bytes_at bundle 32 24)
-  pub in_length : (start : ℕ) × (looked_up whole_package 5 1 1 6 ≡ part start 16 1)
+  pub in_length : (start : ℕ) × (looked_up whole_package 5 1 1 6 ≡ part start 16 1) × (bytes_at whole_package start 8 ≡ 0xC ∷ 0 ∷ 0 ∷ 0 ∷ 5 ∷ 0 ∷ 0 ∷ 0 ∷ [])
   pub its_string : Holds whole_package (string_found whole_package 5 1 1 0) 1 (98 ∷ [])
   pub no_third_string : string_found whole_package 5 1 1 2 ≡ refused no_entry
   pub is_absent : (looked_up whole_package 5 1 9 3 ≡ absent 2) × (string_found whole_package 5 1 9 0 ≡ absent 2)

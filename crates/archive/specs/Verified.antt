@@ -13,23 +13,26 @@ use Rattle.lookup.specs.Lookup.{Found, part, package_of, looked_up, string_found
 use Rattle.lookup.specs.Answers.{coded, package_in}
 use Rattle.agreement.specs.Agreement.{Agrees, IsFault}
 use Rattle.agreement.specs.declared.Fault.{Fault}
-use Rattle.archive.specs.Theorem.{Asked, IsCode, IsFirst, AreBytes, handed_part}
+use Rattle.archive.specs.Theorem.{Asked, IsCode, IsFirst, AreBytes, handed_part, header_of}
 use Rattle.archive.specs.declared.verifying.Verdict.{Verdict}
 
 -- the answer is a part of the package which holds these bytes, after however many looks
 abbrev pub Holding : List ℕ → Found → List ℕ → Type 0
 Holding p answer bytes = (start : ℕ) × (looks : ℕ) × (answer ≡ part start (length bytes) looks) × (bytes_at p start (length bytes) ≡ bytes)
 
--- of each unit that was handed in with b, the first under its identity, p has the bytes, the parts, of str_offsets in length, and the string of each entry
+-- under a table and an identity p has a unit: its bytes and its parts, of str_offsets the length and the header, and the string of each entry
+pub record HasUnit (p : List ℕ) (v table x : ℕ) (u : Filed) : Type 0 where
+  pub parts : (code : ℕ) → IsCode code → (code ≡ str_offsets_code → ⊥) → Holding p (looked_up p v table x code) (handed_part u code)
+  pub offsets : (start : ℕ) × (looks : ℕ) × (looked_up p v table x str_offsets_code ≡ part start (length (handed_part u str_offsets_code)) looks)
+      × (bytes_at p start (length (header_of u)) ≡ header_of u)
+  pub strings : (k : ℕ) → k < length (entries_of_unit u)
+      → (string : List ℕ) × (string_at no_string (u.input.bytes str_code) (slice_index (entries_of_unit u) k) ≡ pass string) × Holding p (string_found p v table x k) string
+
 pub record Verified (b p : List ℕ) (v : ℕ) : Type 0 where
   -- what it states is what the first object of b states
   pub encoding : (k : Bundle) → bundle_of b ≡ pass k → (k.objects ≡ [] → ⊥) → coded (package_in p).encoding ≡ coded (encoding_of k.big (first_word k.objects))
-  pub parts : (table x code : ℕ) (u : Filed) → Asked b v table → IsCode code → IsFirst b table x u → (code ≡ str_offsets_code → ⊥)
-      → Holding p (looked_up p v table x code) (handed_part u code)
-  pub offsets : (table x : ℕ) (u : Filed) → Asked b v table → IsFirst b table x u
-      → (start : ℕ) × (looks : ℕ) × (looked_up p v table x str_offsets_code ≡ part start (length (handed_part u str_offsets_code)) looks)
-  pub strings : (table x k : ℕ) (u : Filed) → Asked b v table → IsFirst b table x u → k < length (entries_of_unit u)
-      → (string : List ℕ) × (string_at no_string (u.input.bytes str_code) (slice_index (entries_of_unit u) k) ≡ pass string) × Holding p (string_found p v table x k) string
+  -- and it has each unit that was handed in with b and is the first under its identity
+  pub units : (table x : ℕ) (u : Filed) → Asked b v table → IsFirst b table x u → HasUnit p v table x u
 
 -- where p answers as the package q of b does
 abbrev pub VerifiedAnswers : Type 0

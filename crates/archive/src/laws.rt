@@ -1,5 +1,6 @@
 // The theorems, each as the contract of a function that does nothing: a check of this crate proves every one of them, and stops where one has lost its proof.
 // The statements stand in specs/.
+ghost use Rattle.archive.specs.FromFiles.{FromFilesToAnswer};
 ghost use Rattle.archive.specs.Theorem.{FromBundleToAnswer};
 ghost use Rattle.archive.specs.TwoSittings.{TwoSittings};
 ghost use Rattle.archive.specs.RoundTrip.{RoundTrip, ElseRefused};
@@ -10,6 +11,13 @@ ghost use Rattle.archive.specs.Refusing.{RefusesByNumber};
 ghost use Rattle.archive.specs.Clauses.{EveryClause};
 ghost use Rattle.archive.specs.Applied.{Applied};
 ghost use Rattle.archive.specs.Rules.{FilesAreHeld, FilesOf32AreHeld, SlotsAreLeast, EverySlotVisited, AlwaysFree, ThreeCases};
+
+// Of files that are joined and packed, or against which a package is verified: whoever holds the package finds, for each table and identity, the first unit that the files
+// handed in, in their order; every other unit of the files is a type unit that comes again, and is counted.
+#[tactic(auto, using(crate::proofs::FromFiles::from_files))]
+pub fn from_files_to_answer()
+    ensures { FromFilesToAnswer }
+{}
 
 // Whoever holds the package of an accepted bundle finds an identity exactly when a unit was handed in under it, with that unit's bytes, parts and strings.
 pub fn from_bundle_to_answer()

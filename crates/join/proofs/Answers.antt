@@ -1,7 +1,7 @@
 -- What a join answers, from what the file's reader answered.
-use mathlib.Core.Path.{◌≡◌, refl, sym, ap, ◌∙◌, subst}
+use mathlib.Core.Path.{◌≡◌, refl, sym, ap, ◌∙◌}
 use mathlib.Core.Logic.{◌⊎◌, inl, inr, ⊎_elim}
-use mathlib.Core.Bool.{Bool, true, false, cond, not, ◌&&◌}
+use mathlib.Core.Bool.{Bool, true, false, not, ◌&&◌}
 use mathlib.Core.List.{List, append-nil}
 use Prim.Native.Nat.{ℕ, ◌+◌, ◌-◌, ◌≤◌, ◌<◌}
 use native.Mathlib.Omega.{arith}
@@ -9,9 +9,9 @@ use native.Mathlib.Decide.{dec_le}
 use lib.Dec.{eqb, leb}
 use lib.ListN.{length, take, drop, get_or}
 use lib.Seq.{take_all, length-take-le}
-use borrow.Author.Tests.{ne_eqb, le-leb, lt-leb, leb-true, leb-false}
+use borrow.Author.Tests.{ne_eqb, le-leb, lt-leb, leb-true}
 use Rattle.octets.specs.Octets.{padded, zeros, number, number_at}
-use Rattle.octets.specs.Checked.{Check, pass, refuse, ◌>>=◌, require, mapped}
+use Rattle.octets.specs.Checked.{Check, pass, refuse, ◌>>=◌, mapped}
 use Rattle.octets.proofs.Parts.{part_take}
 use Rattle.octets.proofs.Placed.{padded_none}
 use Rattle.bundle.specs.Bundle.{Bundle, bundle_of}

@@ -1,24 +1,24 @@
 -- What a file's bundle is: written of objects that can be written, at least a head and an end, and refused by no number that says something else.
 use mathlib.Core.Path.{◌≡◌, refl, sym, ap, ◌∙◌, subst}
-use mathlib.Core.Logic.{◌⊎◌, inl, inr, ⊎_elim}
-use mathlib.Core.Bool.{Bool, true, false, cond, not, ◌&&◌, ◌||◌}
+use mathlib.Core.Logic.{⊎_elim}
+use mathlib.Core.Bool.{Bool, true, false, cond, ◌||◌}
 use mathlib.Core.List.{List, [], ◌∷◌, ◌++◌, map, append_assoc}
-use Prim.Native.Nat.{ℕ, zero, suc, ◌+◌, ◌*◌, ◌-◌, ◌/◌, ◌%◌, ◌≤◌, ◌<◌}
+use Prim.Native.Nat.{ℕ, zero, suc, ◌+◌, ◌*◌, ◌-◌, ◌/◌, ◌≤◌}
 use native.Mathlib.Omega.{arith}
-use lib.Dec.{eqb, leb, ltb}
-use lib.ListN.{length, take, get_or, length-append}
+use lib.Dec.{eqb, leb}
+use lib.ListN.{length, take, get_or}
 use borrow.Author.Tests.{leb-true}
 use Rattle.octets.specs.Octets.{part, number_at, little_of, bytes_of, zeros}
 use Rattle.octets.specs.Lists.{all, same, joined}
-use Rattle.octets.specs.Checked.{Check, pass, refuse, ◌>>=◌, require}
-use Rattle.octets.proofs.Checks.{pass_refuse, refuse_inj, bind_pass, bind_refuse, require_pass, require_refuse, pass_inj, known}
+use Rattle.octets.specs.Checked.{Check, pass, refuse}
+use Rattle.octets.proofs.Checks.{bind_pass, bind_refuse, require_pass, pass_inj}
 use Rattle.octets.proofs.Refusals.{Only, only_pass, only_require, only_bind, Between, between_pass, between_require, between_bind, between_only}
 use Rattle.octets.proofs.Numbers.{Bytes, bytes_none, bytes_tail, bytes_part, number_at_first}
 use Rattle.octets.proofs.Placed.{get_d_zeros}
 use Rattle.bundle.specs.Bundle.{Bundle, filled_up, bundle_of}
-use Rattle.bundle.specs.Written.{Section, Sections, word_bytes, head_bytes, section_bytes, object_bytes, end_bytes, written}
-use Rattle.bundle.proofs.Every.{Every, nothing, also}
-use Rattle.bundle.proofs.RoundTrip.{Storable, Storables, length_written}
+use Rattle.bundle.specs.Written.{Sections, word_bytes, head_bytes, section_bytes, object_bytes, end_bytes, written}
+use Rattle.bundle.proofs.Every.{Every}
+use Rattle.bundle.proofs.RoundTrip.{Storables, length_written}
 use Rattle.bundle.proofs.Whole.{head_word}
 use Rattle.bundle.proofs.Back.{object_in}
 use Rattle.bundle.proofs.WordsAnswered.{bundle_only}
@@ -29,7 +29,7 @@ use Rattle.elf.specs.Reader.{readable, first_info, unit_stated, object_word, sec
 use Rattle.elf.proofs.Held.{holds, holds32}
 use Rattle.join.specs.Join.{starts_elf, elf_bundle, as_it_is, as_bundle, file_bundle, head_of}
 use Rattle.join.specs.Held.{file_head}
-use Rattle.join.proofs.Canonical.{Canonical, canonical, bundle_long}
+use Rattle.join.proofs.Canonical.{canonical, bundle_long}
 use Rattle.std.specs.Prelude.{if◌then◌else◌}
 
 -- ---- the head of what is written
@@ -135,7 +135,7 @@ elf_read_is f b = go (eqb (get_or f 4 0) 1)
     go false h = read_64 f b h
 
 -- ---- what is written of bytes is bytes
-bytes_append : (s t : List ℕ) → Bytes s → Bytes t → Bytes (s ++ t)
+pub bytes_append : (s t : List ℕ) → Bytes s → Bytes t → Bytes (s ++ t)
 bytes_append [] t h g i = g i
 bytes_append (x ∷ s) t h g zero = h 0
 bytes_append (x ∷ s) t h g (suc i) = bytes_append s t (bytes_tail x s h) g i
@@ -149,7 +149,7 @@ bytes_little zero n i = omega arith
 bytes_little (suc w) n zero = omega arith
 bytes_little (suc w) n (suc i) = bytes_little w (n / 256) i
 
-bytes_word : (n : ℕ) → Bytes (word_bytes n)
+pub bytes_word : (n : ℕ) → Bytes (word_bytes n)
 unfolding word_bytes bytes_of
 bytes_word n = bytes_little 4 n
 
@@ -195,13 +195,15 @@ pub record Made (f b : List ℕ) : Type 0 where
   pub is : b ≡ written big objects
   pub good : Every Storables objects
   pub small : length b ≤ package_limit
+  pub are_bytes : Bytes b
 
 elf_made : (f b : List ℕ) → Bytes f → elf_bundle f ≡ pass b → Made f b
 elf_made f b g h =
     let r = elf_read_is f b h in
     let x = r.again g in
-    let c = canonical b (subst Bytes (sym r.is) (bytes_read f r.file r.word g)) x.0 x.1 in
-    record { big = x.0.big; objects = map (object_in b) x.0.objects; is = c.is; good = c.good; small = r.small }
+    let are = subst Bytes (sym r.is) (bytes_read f r.file r.word g) in
+    let c = canonical b are x.0 x.1 in
+    record { big = x.0.big; objects = map (object_in b) x.0.objects; is = c.is; good = c.good; small = r.small; are_bytes = are }
 
 bundle_made : (f b : List ℕ) → Bytes f → as_bundle f ≡ pass b → Made f b
 unfolding as_bundle as_it_is
@@ -210,7 +212,7 @@ bundle_made f b g h =
     let l = require_pass (leb (length f) package_limit) 19 _ b u.2 in
     let c = canonical f g u.0 u.1 in
     subst (Made f) (pass_inj l.1)
-    (record { big = u.0.big; objects = map (object_in f) u.0.objects; is = c.is; good = c.good; small = leb-true (length f) package_limit l.0 })
+    (record { big = u.0.big; objects = map (object_in f) u.0.objects; is = c.is; good = c.good; small = leb-true (length f) package_limit l.0; are_bytes = g })
 
 pub file_made : (f b : List ℕ) → Bytes f → file_bundle f ≡ pass b → Made f b
 unfolding file_bundle

@@ -1,24 +1,23 @@
 -- A bundle that can be read is what is written of the objects that are read, byte by byte.
 use mathlib.Core.Path.{◌≡◌, refl, sym, ap, ◌∙◌, subst}
-use mathlib.Core.Logic.{◌⊎◌, inl, inr, ⊎_elim}
+use mathlib.Core.Logic.{⊎_elim}
 use mathlib.Core.Bool.{Bool, true, false, ◌||◌}
 use mathlib.Core.List.{List, [], ◌∷◌, ◌++◌, map, append-nil, append_assoc}
-use Prim.Native.Nat.{ℕ, zero, suc, ◌+◌, ◌*◌, ◌-◌, ◌/◌, ◌%◌, ◌≤◌, ◌<◌}
+use Prim.Native.Nat.{ℕ, ◌+◌, ◌*◌, ◌-◌, ◌/◌, ◌≤◌}
 use native.Mathlib.Omega.{arith}
 use native.Mathlib.Decide.{dec_le}
 use lib.Dec.{eqb}
-use lib.ListN.{length, take, drop, length-append, length-drop, take-append-drop}
-use lib.Seq.{take_all, drop-drop}
+use lib.ListN.{length, drop, length-append, length-drop}
 use borrow.Author.Tests.{eqb-true}
 use Rattle.octets.specs.Octets.{part, number_at, zeros}
 use Rattle.octets.specs.Lists.{joined, all}
-use Rattle.octets.specs.Checked.{Check, pass, refuse}
+use Rattle.octets.specs.Checked.{pass}
 use Rattle.octets.proofs.Checks.{bind_pass, require_pass, pass_inj, or_cases}
 use Rattle.octets.proofs.Lists.{all_head, all_tail}
 use Rattle.octets.proofs.Numbers.{Bytes, number_at_drop, bytes_of_number_at}
 use Rattle.octets.proofs.Parts.{drop_part, part_drop, length_part}
-use Rattle.bundle.specs.Bundle.{Part, Item, object, section, Object, Bundle, Step, more, end, broken, filled_up, items, leading, objects_of, object_first, bundle_of}
-use Rattle.bundle.specs.Written.{Section, Sections, word_bytes, head_bytes, section_bytes, object_bytes, end_bytes, written}
+use Rattle.bundle.specs.Bundle.{Part, Item, object, section, Bundle, Step, more, end, broken, filled_up, items, leading, objects_of, object_first, bundle_of}
+use Rattle.bundle.specs.Written.{word_bytes, head_bytes, section_bytes, object_bytes, end_bytes, written}
 use Rattle.bundle.proofs.Every.{Every, nothing, also}
 use Rattle.bundle.proofs.Facts.{ObjectFacts, SectionFacts, EndFacts, Facts, facts}
 use Rattle.bundle.proofs.Passed.{here, step_here, left_broken, left_more, left_cons}
@@ -27,7 +26,7 @@ use Rattle.bundle.proofs.Cases.{step_short}
 use Rattle.bundle.proofs.Whole.{readable}
 use Rattle.bundle.proofs.RoundTrip.{Storable, Storables}
 use Rattle.bundle.proofs.Back.{section_in, object_in}
-use Rattle.bundle.proofs.Putting.{length_head, length_end}
+use Rattle.bundle.proofs.Putting.{length_end}
 
 -- ---- zeros that were tested
 zeros_again : (s : List ℕ) → all (eqb 0) s ≡ true → s ≡ zeros (length s)

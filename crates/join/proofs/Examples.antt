@@ -1,15 +1,13 @@
 -- Files joined and opened, as the checker computes them.
 use mathlib.Core.Path.{◌≡◌, refl}
-use mathlib.Core.Bool.{true, false, not, ◌&&◌, ◌||◌}
-use mathlib.Core.List.{List, [], ◌∷◌, ◌++◌, map}
+use mathlib.Core.List.{List, [], ◌∷◌, ◌++◌}
 use Prim.Native.Nat.{ℕ}
-use lib.ListN.{length}
-use Rattle.octets.specs.Octets.{part, little, big_from, number, number_at, little_of, big_of, bytes_of, numbers_of, zeros, padded}
-use Rattle.octets.specs.Lists.{joined as concat, all, any, those, same}
-use Rattle.octets.specs.Checked.{Check, pass, refuse, ◌>>=◌, require}
-use Rattle.answers.specs.Answers.{Answer, refused, short, made, answered}
+use Rattle.octets.specs.Octets.{part, little, number, number_at, little_of, bytes_of, numbers_of, zeros, padded}
+use Rattle.octets.specs.Lists.{joined as concat, all}
+use Rattle.octets.specs.Checked.{pass, refuse, ◌>>=◌, require}
+use Rattle.answers.specs.Answers.{refused, short, made, answered}
 use Rattle.bundle.specs.Bundle.{filled_up, object_step, section_step, end_step, step_of, step_at, followed, items_from, items, leading, objects_of, object_first, bundle_of}
-use Rattle.bundle.specs.Written.{Section, word_bytes, head_bytes, section_bytes, object_bytes, end_bytes, written}
+use Rattle.bundle.specs.Written.{word_bytes, end_bytes}
 use Rattle.bundle.proofs.Examples.{words}
 use Rattle.join.specs.Laws.{joined_all, section_in, object_in, objects_read, objects_in, file_objects, all_objects}
 use Rattle.join.specs.Join.{elf_bundle, as_it_is, as_bundle, file_bundle, framed, contents, behind, joined_with, joined_behind, joined, joining, memory_after, starts_elf}

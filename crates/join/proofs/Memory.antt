@@ -1,14 +1,14 @@
 -- The memory of a bundle that a file is joined to, store by store: m is what it held, and n how many bytes the bundle has.
 use mathlib.Core.Path.{◌≡◌, refl, sym, ap, ◌∙◌}
-use mathlib.Core.List.{List, [], ◌∷◌, ◌++◌, append-nil, append_assoc}
-use Prim.Native.Nat.{ℕ, ◌+◌, ◌-◌, ◌≤◌, ◌<◌}
+use mathlib.Core.List.{List, [], ◌++◌, append-nil, append_assoc}
+use Prim.Native.Nat.{ℕ, ◌+◌, ◌-◌, ◌≤◌}
 use native.Mathlib.Omega.{arith}
 use lib.ListN.{length, take, drop, length-append, length-take, length-drop, take-append-drop}
-use lib.Seq.{take_at, drop_at, drop-drop, take-take, take-add, drop-append-le, drop-append-add, length-take-le}
+use lib.Seq.{take_at, drop_at, take-take, take-add, drop-append-le, drop-append-add, length-take-le}
 use borrow.Rule.Slice.PartMut.{put_mid}
 use Rattle.octets.specs.Octets.{part, placed, padded, zeros}
 use Rattle.octets.proofs.Parts.{drop_take, length_part}
-use Rattle.octets.proofs.Placed.{length_zeros, padded_step, length_padded}
+use Rattle.octets.proofs.Placed.{padded_step, length_padded}
 use Rattle.octets.proofs.Elements.{no_length}
 use Rattle.bundle.specs.Written.{end_bytes}
 use Rattle.bundle.proofs.Putting.{length_end}

@@ -1,19 +1,19 @@
 -- What an opened file answers, from what was read of it.
 use mathlib.Core.Path.{◌≡◌, refl, sym, ap, ◌∙◌}
 use mathlib.Core.Bool.{Bool, true, false, cond}
-use mathlib.Core.List.{List, ◌++◌}
+use mathlib.Core.List.{List}
 use Prim.Native.Nat.{ℕ, ◌-◌, ◌≤◌}
 use native.Mathlib.Omega.{arith}
 use lib.ListN.{length, take}
 use lib.Seq.{take_at}
 use Rattle.octets.specs.Octets.{padded, zeros}
-use Rattle.octets.specs.Checked.{Check, pass, refuse}
+use Rattle.octets.specs.Checked.{pass, refuse}
 use Rattle.octets.proofs.Checks.{pass_refuse}
 use Rattle.octets.proofs.Placed.{length_padded}
 use Rattle.answers.specs.Answers.{Answer, refused, short, made, answered, written_of, output_of}
 use Rattle.answers.specs.declared.Written.{Written}
 use Rattle.answers.proofs.Answering.{made_output}
-use Rattle.lookup.specs.Lookup.{Package, package_of}
+use Rattle.lookup.specs.Lookup.{package_of}
 use Rattle.lookup.specs.Answers as lookups
 use Rattle.lookup.specs.declared.opening.PackageHead.{PackageHead}
 use Rattle.join.specs.Join.{starts_elf, elf_bundle}

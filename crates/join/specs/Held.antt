@@ -1,5 +1,5 @@
 -- What ties the code to the definitions. Nothing here need be believed.
-use Rattle.std.specs.Prelude.{Bool, false, List, ℕ, ◌+◌, ◌==◌, nat_le, if◌then◌else◌, slice_index, length, ◌&&◌, ◌||◌, not}
+use Rattle.std.specs.Prelude.{Bool, false, List, ℕ, ◌+◌, ◌==◌, nat_le, if◌then◌else◌, slice_index, ◌&&◌, not}
 use Rattle.octets.specs.Octets.{number_at}
 use Rattle.numbers.specs.Limits.{package_limit}
 use Rattle.numbers.specs.Refusals.{output_short, section_too_long}

@@ -1,5 +1,5 @@
 -- Files joined to one bundle: the objects of each file stand behind those of the files before it.
-use Rattle.std.specs.Prelude.{Bool, false, ◌&&◌, ◌||◌, List, [], ◌++◌, ℕ, ◌+◌, ◌-◌, ◌/◌, ◌%◌, ◌==◌, nat_le, if◌then◌else◌, length, take, drop, slice_index}
+use Rattle.std.specs.Prelude.{Bool, false, ◌&&◌, ◌||◌, List, ◌++◌, ℕ, ◌+◌, ◌-◌, ◌/◌, ◌%◌, ◌==◌, nat_le, if◌then◌else◌, length, take, drop, slice_index}
 use Rattle.octets.specs.Octets.{number_at, padded}
 use Rattle.octets.specs.Checked.{Check, pass, ◌>>=◌, require}
 use Rattle.numbers.specs.Limits.{package_limit}

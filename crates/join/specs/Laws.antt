@@ -1,5 +1,5 @@
 -- What is joined of files holds exactly their objects, in the files' order.
-use Rattle.std.specs.Prelude.{◌≡◌, List, [], ◌∷◌, ◌++◌, map, ℕ, ◌<◌, slice_index}
+use Rattle.std.specs.Prelude.{◌≡◌, Bool, List, [], ◌∷◌, ◌++◌, map, ℕ, ◌<◌, slice_index}
 use Rattle.octets.specs.Checked.{Check, pass, refuse, ◌>>=◌}
 use Rattle.octets.specs.Octets.{part}
 use Rattle.bundle.specs.Bundle.{Part, Object, Bundle, bundle_of}
@@ -41,12 +41,26 @@ unfoldable pub AllBytes : List (List ℕ) → Type 0
 AllBytes [] = Unit {0}
 AllBytes (f ∷ fs) = ((i : ℕ) → slice_index f i < 256) × AllBytes fs
 
--- the bundle can be read, and holds these objects and no others
-pub record HoldsAll (b : List ℕ) (os : List Sections) : Type 0 where
+-- a file is read, as a bundle of this byte order
+pub record ReadIn (big : Bool) (f : List ℕ) : Type 0 where
+  pub bundle : List ℕ
+  pub made : file_bundle f ≡ pass bundle
+  pub objects : Bundle
+  pub read : bundle_of bundle ≡ pass objects
+  pub order : objects.big ≡ big
+
+unfoldable pub EachRead : Bool → List (List ℕ) → Type 0
+EachRead big [] = Unit {0}
+EachRead big (f ∷ fs) = ReadIn big f × EachRead big fs
+
+-- the bundle is bytes that can be read; it holds the objects of these files and no others, and all of them are of its byte order
+pub record HoldsAll (b : List ℕ) (fs : List (List ℕ)) : Type 0 where
+  pub are_bytes : (i : ℕ) → slice_index b i < 256
   pub bundle : Bundle
   pub read : bundle_of b ≡ pass bundle
-  pub objects : map (object_in b) bundle.objects ≡ os
+  pub each_read : EachRead bundle.big fs
+  pub objects : map (object_in b) bundle.objects ≡ all_objects fs
 
 abbrev pub JoinedHolds : Type 0
 JoinedHolds =
-    (f : List ℕ) (fs : List (List ℕ)) (b : List ℕ) → AllBytes (f ∷ fs) → joined_all [] (f ∷ fs) ≡ pass b → HoldsAll b (all_objects (f ∷ fs))
+    (f : List ℕ) (fs : List (List ℕ)) (b : List ℕ) → AllBytes (f ∷ fs) → joined_all [] (f ∷ fs) ≡ pass b → HoldsAll b (f ∷ fs)

@@ -1,8 +1,7 @@
 // The law on joined files, as the contract of a function that does nothing.
 ghost use Rattle.join.specs.Laws.{JoinedHolds};
 
-// What is joined of files holds exactly their objects, in the files' order.
-#[tactic(auto, using(crate::proofs::Joined::joined_holds))]
+// What is joined of files holds exactly their objects, in the files' order, and all files are of one byte order.
 pub fn joined_holds()
     ensures { JoinedHolds }
 {}

@@ -1,9 +1,7 @@
 -- `join::joining::join` meets its contract.
 use mathlib.Core.Path.{refl, sym, ap, ◌∙◌}
-use native.Mathlib.Omega.{arith}
 use lib.ListN.{length}
-use Rattle.octets.specs.Octets.{padded, zeros}
-use Rattle.answers.specs.Answers.{Answer, refused, written_of, output_of}
+use Rattle.answers.specs.Answers.{Answer, written_of, output_of}
 use Rattle.join.specs.Join.{memory_after}
 use Rattle.join.proofs.Memory.{unframed_kept}
 use Rattle.join.proofs.Answers.{joining_outside, kept_outside, joining_none, joining_unframed, joining_framed, none_kept}

@@ -8,7 +8,7 @@ use lib.Dec.{eqb}
 use lib.ListN.{length, take, drop}
 use lib.Seq.{length-take-le}
 use borrow.Rule.Slice.PartMut.{put_mid}
-use Rattle.octets.specs.Octets.{part, placed, padded, zeros, number_at}
+use Rattle.octets.specs.Octets.{part, placed, zeros, number_at}
 use Rattle.octets.proofs.Parts.{length_part}
 use Rattle.answers.specs.Answers.{answered, written_of, output_of}
 use Rattle.answers.specs.declared.Written.{Written}

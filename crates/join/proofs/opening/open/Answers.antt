@@ -1,10 +1,9 @@
 -- `join::opening::open` meets its contract.
-use mathlib.Core.Path.{refl, sym, ap, ◌∙◌}
-use native.Mathlib.Omega.{arith}
+use mathlib.Core.Path.{sym, ap, ◌∙◌}
 use lib.ListN.{length}
 use lib.Seq.{length-take-le}
 use Rattle.octets.specs.Octets.{zeros}
-use Rattle.answers.specs.Answers.{Answer, answered, written_of, output_of}
+use Rattle.answers.specs.Answers.{Answer, written_of, output_of}
 use Rattle.join.proofs.Opened.{unread, within, packaged, unpackaged}
 use Rattle.join.proofs.opening.open.Goals as goal
 
