@@ -7,6 +7,7 @@ ORACLE_SOURCE ?= ../shared/oracle
 ORACLE = $(CURDIR)/target/oracle/release/thorin-oracle
 ACCEPTED ?= 100000
 DAMAGED ?= 1000000
+TURNED ?= 100000
 SITTINGS ?= 100000
 SEED ?= 1
 
@@ -34,7 +35,7 @@ help:
 	@echo 'make dist           writes them into an archive, with their sums: target/$(DIST).tar.gz'
 	@echo 'make test           the gate: rt ci (layout, every proof, every edit that must fail, every program), then the tests of the host'
 	@echo 'make host           the tests of the host alone'
-	@echo 'make differential   compares with thorin itself, where it is at hand, feeds a million damaged bundles, packs in two sittings and hostile bundles; fails where packing takes too long'
+	@echo 'make differential   compares with thorin itself, where it is at hand, feeds a million damaged bundles, verifies 100,000 packages with bits turned, packs in two sittings and hostile bundles; fails where packing takes too long'
 	@echo 'make hostile        packs hostile bundles of 28 KB and says which keep 50 ms; fails where one does not that is not known to'
 	@echo 'make string-index   times the index of strings against a proved build that walks the kept strings; fails below five times'
 	@echo 'make bench-ready    builds what the benchmark wants: command, thorin, releases of real programs, the walking build'
@@ -180,6 +181,7 @@ differential: oracle library
 	cd host && cargo build --release --offline --bins
 	host/target/release/against_oracle "$(ORACLE)" $(ACCEPTED) $(SEED)
 	host/target/release/damaged $(DAMAGED) $(SEED)
+	host/target/release/damaged_packages $(TURNED) $(SEED) "$(ORACLE)"
 	host/target/release/damaged_elf $(DAMAGED) $(SEED)
 	host/target/release/written_elf 100000 $(SEED)
 	host/target/release/two_sittings $(SITTINGS) $(SEED)

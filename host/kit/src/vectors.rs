@@ -30,6 +30,37 @@ pub enum Vector {
     },
 }
 
+/// What verifying answers. A no may name any place where the package answers otherwise, so that no line has one.
+#[derive(Clone, Copy, Debug, PartialEq, Eq)]
+pub enum Verdict {
+    Yes,
+    No,
+    Refused(u32),
+    Short(usize),
+}
+
+impl std::fmt::Display for Verdict {
+    fn fmt(&self, out: &mut std::fmt::Formatter) -> std::fmt::Result {
+        match self {
+            Verdict::Yes => write!(out, "yes"),
+            Verdict::No => write!(out, "no"),
+            Verdict::Refused(number) => write!(out, "refused {number}"),
+            Verdict::Short(length) => write!(out, "short {length}"),
+        }
+    }
+}
+
+/// The same from words.
+pub fn verdict(words: &[&str]) -> Option<Verdict> {
+    match words {
+        ["yes"] => Some(Verdict::Yes),
+        ["no"] => Some(Verdict::No),
+        ["refused", n] => Some(Verdict::Refused(number(n)? as u32)),
+        ["short", n] => Some(Verdict::Short(number(n)? as usize)),
+        _ => None,
+    }
+}
+
 /// Bytes in hexadecimal; `-` is none.
 pub fn bytes(text: &str) -> Option<Vec<u8>> {
     let digits = text.trim_start_matches('-');

@@ -4,17 +4,11 @@
 use kit::elf;
 use kit::handed_in::{firsts, HandedIn};
 use kit::lender::Lender;
+use kit::real::BY_LLVM as PACKAGES;
 use kit::reference::{pack, work_for, Bundle, Index, Packed};
 use std::fs;
 
 const REAL: &str = concat!(env!("CARGO_MANIFEST_DIR"), "/../../examples/real");
-
-/// A package, and the files that it was made of.
-const PACKAGES: [(&str, &[&str]); 3] = [
-    ("llvm-5-clang-two", &["clang-5-main", "clang-5-race"]),
-    ("llvm-5-clang", &["clang-5-main", "clang-5-race", "clang-5t-driver"]),
-    ("llvm-5-gcc", &["gcc-5-main", "gcc-5-race"]),
-];
 
 fn read(name: &str) -> Vec<u8> {
     let file = fs::read(format!("{REAL}/{name}")).unwrap_or_else(|e| panic!("{name}: {e}"));

@@ -58,6 +58,9 @@ enum { BARTHOVIN_VERSION_4_INDEX = 2, BARTHOVIN_VERSION_5_INDEX = 5 };
 /* Codes of an answer that are no refusals, and the one refusal that carries a length. */
 enum { BARTHOVIN_DONE = 0, BARTHOVIN_ABSENT = 1, BARTHOVIN_NOT_LOOKED_UP = 2, BARTHOVIN_OUTPUT_TOO_SHORT = 18 };
 
+/* Of verifying: the package answers otherwise. */
+enum { BARTHOVIN_NOT_VERIFIED = 46 };
+
 /* What packing takes at most, and the words of work it asks for, for each word of the bundle. */
 #define BARTHOVIN_LONGEST_BUNDLE 4194304
 #define BARTHOVIN_WORK_FOR_A_WORD 20

@@ -13,7 +13,7 @@ mod sheet;
 pub use each::{each, Refused};
 pub use elf::{has_no_debug, reading_elf, uncarried, WITHOUT_DEBUG};
 pub use lookup::{looking_up, not_a_package};
-pub use place::{place, Place};
+pub use place::{handed_in, place, without_units, Place};
 pub use sheet::not_a_sheet;
 
 use crate::names::{section_name, LONGEST_BUNDLE, LONGEST_SECTION, RNGLISTS};

@@ -1,14 +1,15 @@
 //! The verified packer for Rust callers, and what the command does.
 //!
 //! `ffi` and `profile` call the proved functions, `lent` has memory for them, `answer` the kinds of their answers, and `names` their numbers.
-//! The rest is help for people: `reader` takes bundles and packages apart, `explain` says why something was refused, `verify` asks for all
-//! that was packed, `command` is the command. None of it is proved, and none of it has a say in an answer. C callers have
-//! `include/barthovin.h`.
+//! `join` joins and opens files, `verifying` holds a package against files, and `counted` counts what they hand in, by the proved functions too. The rest is
+//! help for people: `reader` takes bundles and packages apart, `explain` says why something was refused, `command` is the command. None of it is proved,
+//! and none of it has a say in an answer. C callers have `include/barthovin.h`.
 
 pub mod answer;
 pub mod batch;
 pub mod closed;
 pub mod command;
+pub mod counted;
 pub mod elf;
 pub mod explain;
 pub mod ffi;
@@ -21,5 +22,4 @@ pub mod sheet;
 pub mod skipped;
 pub mod sum;
 pub mod units;
-pub mod verify;
 pub mod verifying;

@@ -1,11 +1,24 @@
 //! The units that a bundle or a package holds, as the host reads them. What holds a unit that is nowhere else is not written over; nothing is proved of
 //! this.
 
-use crate::names::{section_name, CU_INDEX, TU_INDEX};
+use crate::names::{section_name, table_name, CU_INDEX, TU_INDEX};
 use crate::reader::bundle::{Bundle, Object};
 use crate::reader::index::Index;
 use crate::reader::unit::{spans, Identities};
 use std::collections::BTreeSet;
+
+/// A unit as it is called in messages.
+#[derive(Clone, Copy, Debug, PartialEq, Eq)]
+pub struct Unit {
+    pub table: u32,
+    pub identity: u64,
+}
+
+impl std::fmt::Display for Unit {
+    fn fmt(&self, out: &mut std::fmt::Formatter) -> std::fmt::Result {
+        write!(out, "unit {} {:#018x}", table_name(self.table), self.identity)
+    }
+}
 
 /// Units by their table, 1 or 2, and their identity.
 pub type Units = BTreeSet<(u32, u64)>;

@@ -61,6 +61,25 @@ fn the_example_in_c_joins_and_packs() {
     assert_eq!((refused.stderr, refused.status.code()), (wanted, Some(1)));
 }
 
+/// A package of another maker held against its files, and against one more; a file that can't be packed with them is told.
+#[test]
+fn the_example_in_c_verifies() {
+    let source = PathBuf::from(HOME).join("../../examples/verify_package.c");
+    let real = |name: &str| format!("{HOME}/../../examples/real/{name}");
+    let [main, race, other] =
+        ["gcc-5-main", "gcc-5-race", "clang-5-main"].map(|name| real(&format!("files/{name}.dwo")));
+    let package = real("packages/llvm-5-gcc.dwp");
+    let output = compiled(&source, &["-std=c99"], &[&package, &main, &race]);
+    assert_eq!((text(&output), output.status.code()), ("it holds them; 0 repeats, 0 namesakes\n", Some(0)));
+    let output = compiled(&source, &["-std=c11"], &[&package, &main, &other, &race]);
+    let front = "it doesn't hold them: table 1, section 1, identity ";
+    assert!(text(&output).starts_with(front) && output.status.code() == Some(1), "{}", text(&output));
+    let output = compiled(&source, &["-std=c11"], &[&package, &main, &main]);
+    assert_eq!((output.stderr, output.status.code()), (b"refused 14\n".to_vec(), Some(2)));
+    let output = compiled(&source, &["-std=c11"], &["nowhere", &main]);
+    assert_eq!(output.status.code(), Some(2));
+}
+
 /// The bundle that entries.c has.
 const BUNDLE: [u32; 17] = [
     0xF000_0000,

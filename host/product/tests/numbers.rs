@@ -66,13 +66,14 @@ fn of(file: &str, name: &str) -> u64 {
 }
 
 /// Names of the header, and what they are in the code.
-const IN_HEADER: [(&str, &str, &str); 10] = [
+const IN_HEADER: [(&str, &str, &str); 11] = [
     ("COMPILATION_UNITS", TABLES, "COMPILATION"),
     ("TYPE_UNITS", TABLES, "TYPE"),
     ("VERSION_4_INDEX", TABLES, "INDEX_2"),
     ("VERSION_5_INDEX", TABLES, "INDEX_5"),
     ("NOT_LOOKED_UP", ASKING, "NOT_LOOKED_UP"),
     ("OUTPUT_TOO_SHORT", REFUSALS, "OutputShort"),
+    ("NOT_VERIFIED", VERIFYING, "NOT_VERIFIED"),
     ("LONGEST_BUNDLE", LIMITS, "BUNDLE_LIMIT"),
     ("WORK_FOR_A_WORD", LIMITS, "WORK_FOR_WORD"),
     ("LONGEST_SMALL_BUNDLE", LIMITS, "SMALL_BUNDLE"),
@@ -105,7 +106,7 @@ fn the_headers_numbers() {
 }
 
 /// Names of the host, and what they are in the code. Where the header has one, the host's is the header's by this too.
-const IN_HOST: [(&str, &str, &str, &str); 21] = [
+const IN_HOST: [(&str, &str, &str, &str); 24] = [
     (NAMES, "LONGEST_BUNDLE", LIMITS, "BUNDLE_LIMIT"),
     (NAMES, "LONGEST_PACKAGE", LIMITS, "PACKAGE_LIMIT"),
     (NAMES, "LONGEST_SECTION", LIMITS, "SECTION_LIMIT"),
@@ -113,6 +114,9 @@ const IN_HOST: [(&str, &str, &str, &str); 21] = [
     (NAMES, "OUTPUT_TOO_SHORT", REFUSALS, "OutputShort"),
     ("host/product/src/ffi.rs", "NOT_LOOKED_UP", ASKING, "NOT_LOOKED_UP"),
     ("host/product/src/verifying.rs", "NOT_VERIFIED", VERIFYING, "NOT_VERIFIED"),
+    ("host/product/src/counted.rs", "OTHER_VERSION", REFUSALS, "OtherVersion"),
+    ("host/product/src/counted.rs", "WITH_HEADER", TABLES, "DWARF_5"),
+    ("host/product/src/command/verify.rs", "TYPE_UNITS", TABLES, "TYPE"),
     ("host/product/src/batch.rs", "MOST", LIMITS, "QUESTIONS_LIMIT"),
     ("host/product/src/sheet.rs", "LINE", "crates/sheet/src/lines.rt", "LINE"),
     ("host/product/src/elf.rs", "MOST", ELF_WRITER, "MOST"),

@@ -2,11 +2,9 @@
 
 mod common;
 
-use barthovin::names::{OUTPUT_TOO_SHORT, RNGLISTS, STR, STR_OFFSETS, WORK_FOR_A_WORD};
+use barthovin::names::WORK_FOR_A_WORD;
 use barthovin::reader::bundle::put_end;
 use barthovin::reader::number;
-use barthovin::reader::package::Package;
-use barthovin::verify::verify;
 use barthovin::{elf, ffi};
 use common::*;
 use std::fs;
@@ -57,7 +55,7 @@ fn what_was_packed_is_found() {
     ] {
         let files = files(version, big);
         let files: Vec<&str> = files.iter().map(String::as_str).collect();
-        let read = if big { "1 file, 1 object: " } else { "6 files, 6 objects: " };
+        let read = if big { "1 file: " } else { "6 files: " };
         let told = format!("{read}{told}");
         assert_eq!(status(&run_in(&home, &[&["pack", "--force", "-oout"], &files[..]].concat(), &[])), 0);
         let output = run_in(&home, &[&["verify", "out"], &files[..]].concat(), &[]);
@@ -69,28 +67,8 @@ fn what_was_packed_is_found() {
         }
     }
     let output = run_in(&home, &["verify", "-", EXAMPLE, "--json"], &bytes(PACKAGE));
-    let told = "{\"verified\":true,\"units\":1,\"repeats\":0,\"namesakes\":0,\"strings\":0,\"files\":1,\"objects\":1,\"with_code\":[],\"faults\":[]}\n";
+    let told = "{\"verified\":true,\"units\":1,\"repeats\":0,\"namesakes\":0,\"strings\":0,\"files\":1,\"with_code\":[],\"faults\":[]}\n";
     assert_eq!((text(&output), status(&output)), (told.to_string(), 0));
-}
-
-/// A version 5 package in the place of the files that it was made of: each unit's strings are those of its part of str_offsets.
-#[test]
-fn a_package_of_version_5_is_verified_by_its_rows() {
-    for big in [false, true] {
-        let good = package(&bundle(&files(5, big)));
-        let told = verify(&good, &good).unwrap();
-        assert_eq!(told.faults, []);
-        assert_eq!((told.units, told.strings), if big { (1, 13) } else { (8, 76) });
-        // Another string in the last part: only the file's own rows tell whose it is.
-        let read = Package::read(&good).unwrap();
-        let offsets = read.object.as_ref().unwrap().section(STR_OFFSETS).unwrap();
-        let last = offsets.start + offsets.bytes.len() - if big { 1 } else { 4 };
-        let mut changed = good.clone();
-        changed[last] ^= 1;
-        let told = verify(&changed, &good).unwrap();
-        assert!(told.faults.iter().all(|fault| fault.what.ends_with(" is another")), "{:?}", told.faults);
-        assert_eq!(told.faults.len(), 1);
-    }
 }
 
 #[test]
@@ -132,7 +110,7 @@ fn lists_with_nuls_are_taken() {
     done(&["pack", "@list", "-o", "out"], &[]);
     assert!(fs::read(home.join("out")).unwrap() == fs::read(home.join("wanted")).unwrap());
     let told = done(&["verify", "out", "@list"], &[]);
-    assert!(told.starts_with("3 files, 3 objects: ") && told.ends_with("; the files may be deleted\n"), "{told}");
+    assert!(told.starts_with("3 files: ") && told.ends_with("; the files may be deleted\n"), "{told}");
     // No NUL behind the last one, and empty names, which are none.
     assert_eq!(done(&["verify", "out", "@-"], format!("\0\0{}", odd.join("\0")).as_bytes()), told);
     let missing = run_in(&home, &["verify", "out", "@-"], b"#first\0#missing\0");
@@ -165,13 +143,14 @@ fn the_package_is_no_copy_of_itself() {
     }
     // Another file of the same bytes is a copy.
     let output = run_in(&home, &["verify", "package", "copy"], &[]);
-    let told = "1 file, 1 object: 1 unit, 0 strings: all found; the files may be deleted\n";
+    let told = "1 file: 1 unit, 0 strings: all found; the files may be deleted\n";
     assert_eq!((text(&output).as_str(), message(&output).as_str(), status(&output)), (told, "", 0));
-    // Files that can't be packed together, here one unit twice, are nothing that the proved comparison says yes of.
+    // Files that can't be packed together, here one unit twice, are nothing that the proved comparison can say yes of.
     let output = run_in(&home, &["verify", "package", "copy", "file"], &[]);
-    assert!(message(&output)
-        .contains("all found; but the proved comparison packs the files again, and that is refused by 14 "));
-    assert!(message(&output).ends_with(": keep the files\n") && status(&output) == 1, "{}", message(&output));
+    let (told, end) =
+        (message(&output), "barthovin: not verified: what can't be packed again can't be compared: keep the files\n");
+    assert!(told.starts_with("barthovin: file, object 1: refused 14: ") && told.ends_with(end), "{told}");
+    assert_eq!((text(&output).as_str(), status(&output)), ("", 1));
 }
 
 /// An object file that was not split, as `-gsplit-dwarf=single` makes it, has what the program is made of beside its debug sections.
@@ -210,20 +189,26 @@ fn nothing_to_look_for_is_told() {
     fs::write(home.join("empty"), bytes("F0000000 30000002")).unwrap();
     fs::write(home.join("without"), bytes("F0000000 10080405 20800000 21800001 0 30000006")).unwrap();
     fs::copy(EXAMPLE, home.join("file")).unwrap();
-    let looked = |files: &[&str], read: &str| {
+    let without = |objects: &str| {
+        let told = "no unit, as this program reads them: nothing is looked for there";
+        format!("barthovin: {objects} {told}\n")
+    };
+    let looked = |files: &[&str], read: &str, note: &str| {
         let output = run_in(&home, &[&["verify", "package"], files].concat(), &[]);
-        let told = format!("barthovin: package: not verified: {read}: no unit was looked for: keep the files\n");
+        let told = "0 units, 0 strings: no unit was looked for\nbarthovin: keep the files\n";
+        let told = format!("{note}barthovin: package: not verified: {read}: {told}");
         assert_eq!((message(&output), text(&output), status(&output)), (told, String::new(), 1));
         let output = run_in(&home, &[&["verify", "--json", "package"], files].concat(), &[]);
         assert!(text(&output).starts_with("{\"verified\":false,\"units\":0,"), "{}", text(&output));
-        assert_eq!((message(&output), status(&output)), (String::new(), 1));
+        assert_eq!((message(&output), status(&output)), (note.to_string(), 1));
     };
-    looked(&["empty"], "1 file, 0 objects");
-    looked(&["without"], "1 file, 1 object (1 without a unit)");
-    looked(&["without", "empty", "without"], "3 files, 2 objects (2 without a unit)");
+    looked(&["empty"], "1 file", "");
+    looked(&["without"], "1 file", &without("1 of 1 object has"));
+    looked(&["without", "empty", "without"], "3 files", &without("2 of 2 objects have"));
     let output = run_in(&home, &["verify", "package", "without", "file"], &[]);
-    let told = "2 files, 2 objects (1 without a unit): 1 unit, 0 strings: all found; the files may be deleted\n";
-    assert_eq!((text(&output).as_str(), message(&output).as_str(), status(&output)), (told, "", 0));
+    let told = "2 files: 1 unit, 0 strings: all found; the files may be deleted\n";
+    let note = without("1 of 2 objects has");
+    assert_eq!((text(&output).as_str(), message(&output), status(&output)), (told, note, 0));
 }
 
 #[test]
@@ -238,8 +223,9 @@ fn what_is_not_there_is_told() {
     let other = run_in(&home, &["verify", "out", &files[0], &files[1]], &[]);
     let lines = message(&other);
     let lines: Vec<&str> = lines.lines().collect();
-    assert!(lines[0].starts_with("barthovin: out: not verified: 1 fault of 2 units, "), "{lines:?}");
-    assert!(lines[1].starts_with(&format!("barthovin: {}: unit cu 0x", files[1])), "{lines:?}");
+    assert!(lines[0].starts_with("barthovin: out: not verified: 2 files: 2 units, "), "{lines:?}");
+    let place = format!("barthovin: in {}, as this program reads it: unit cu 0x", files[1]);
+    assert!(lines[1].starts_with(&place), "{lines:?}");
     assert!(lines[1].ends_with(": it is not in the package") && lines[2] == "barthovin: keep the files", "{lines:?}");
     assert_eq!((lines.len(), status(&other)), (3, 1));
     let json = text(&run_in(&home, &["verify", "--json", "out", &files[1]], &[]));
@@ -260,165 +246,8 @@ fn what_is_not_there_is_told() {
     changed[letter] = b'M';
     fs::write(home.join("changed.dwo"), changed).unwrap();
     let output = message(&run_in(&home, &["verify", "out", "changed.dwo"], &[]));
-    assert!(output.contains("barthovin: changed.dwo: unit cu 0x") && output.contains(" is another\n"), "{output}");
-}
-
-/// Whose a byte of a package is, as far as units go.
-#[derive(Debug, PartialEq)]
-enum Owner {
-    /// A unit's part or string, an index, or a word.
-    Held,
-    /// The offset of a part that is empty: no byte is found by it.
-    OffsetOfNothing,
-    /// The lowest byte of the length of a section that is filled up to a whole word: it may take in some of the filling.
-    LengthBeforeFilling,
-    /// A byte of a section that no row and no entry names.
-    Nobody,
-}
-
-/// By the host's reader alone.
-fn owner(bytes: &[u8], place: usize) -> Owner {
-    let package = Package::read(bytes).unwrap();
-    let object = package.object.as_ref().unwrap();
-    let (big, width) = (object.encoding.big, object.encoding.width());
-    let header = if object.encoding.version() == 5 { 2 * width } else { 0 };
-    let mut parts = Vec::new();
-    for (table, code) in [(1, 12), (2, 13)] {
-        let Some(index) = package.index(table) else { continue };
-        let first = object.section(code).unwrap().start + 16 + 12 * index.slots.len() + 4 * index.columns.len();
-        for row in 1..=index.units as u32 {
-            for (column, code) in index.columns.iter().enumerate() {
-                let (offset, size) = index.cell(row, column);
-                let cell = first + 4 * ((row as usize - 1) * index.columns.len() + column);
-                if size == 0 && (cell..cell + 4).contains(&place) {
-                    return Owner::OffsetOfNothing;
-                }
-                let start = object.bytes(*code).len().min(offset as usize);
-                parts.push((*code, object.section(*code).map_or(0, |s| s.start) + start, size as usize));
-            }
-        }
-    }
-    if object.sections.iter().any(|s| s.start - 4 == place && s.bytes.len() % 4 != 0) {
-        return Owner::LengthBeforeFilling;
-    }
-    let section = object.sections.iter().find(|s| (s.start..s.start + s.bytes.len()).contains(&place));
-    let Some(section) = section.filter(|s| s.code <= RNGLISTS || s.code == STR) else { return Owner::Held };
-    let held = match section.code {
-        STR => parts.iter().filter(|part| part.0 == STR_OFFSETS && part.2 > 0).any(|(_, start, size)| {
-            let entries = (start + header..start + size).step_by(width);
-            let mut strings = entries.map(|at| section.start + number(bytes, at, width, big).unwrap() as usize);
-            strings.any(|at| (at..=at + bytes[at..].iter().position(|b| *b == 0).unwrap()).contains(&place))
-        }),
-        code => parts.iter().any(|(c, start, size)| *c == code && (*start..start + size).contains(&place)),
-    };
-    if held {
-        Owner::Held
-    } else {
-        Owner::Nobody
-    }
-}
-
-/// Each byte of a package changed by itself, thousands in all: it is noticed, or no unit is found by it.
-#[test]
-fn every_change_is_noticed() {
-    let mut places = 0;
-    for (version, big) in [(4, false), (5, false), (4, true), (5, true)] {
-        let bundle = bundle(&files(version, big));
-        let good = package(&bundle);
-        assert_eq!(verify(&good, &bundle).unwrap().faults, []);
-        let mut unnoticed = [0, 0];
-        for place in 0..good.len() {
-            let mut changed = good.clone();
-            changed[place] ^= 1 << (place % 7);
-            if verify(&changed, &bundle).unwrap().faults.is_empty() {
-                match owner(&good, place) {
-                    Owner::OffsetOfNothing => unnoticed[0] += 1,
-                    Owner::LengthBeforeFilling => unnoticed[1] += 1,
-                    owner => panic!("version {version}, byte {place} ({owner:?}) is changed and not noticed"),
-                }
-            }
-        }
-        let [offsets, lengths] = unnoticed;
-        println!(
-            "version {version}: of {} bytes unnoticed {offsets} of empty parts' offsets, {lengths} of lengths",
-            good.len()
-        );
-        // A few rows have an empty part, whose offset is four bytes; there are nine sections at most.
-        assert!(offsets <= 32 && lengths <= 9, "{unnoticed:?}");
-        places += good.len();
-    }
-    assert!(places > 10_000, "{places}");
-}
-
-/// The same of a package written as an ELF file. Its header, names and section headers belong to no unit: of them only what leads to the
-/// sections' bytes must be noticed, and a unit's bytes are compared whatever else is changed.
-#[test]
-fn every_change_of_a_dwp_is_noticed() {
-    let mut places = 0;
-    for version in [4, 5] {
-        let bundle = bundle(&files(version, false));
-        let package = package(&bundle);
-        let good = elf::file_of(&package, 62).unwrap();
-        let read = Package::read(&package).unwrap();
-        let mut sections: Vec<_> = read.object.as_ref().unwrap().sections.iter().collect();
-        sections.sort_by_key(|section| section.code);
-        // The bytes of the sections stand behind the header, one behind the other: where each stands in the package.
-        let held: Vec<usize> = sections.iter().flat_map(|s| s.start..s.start + s.bytes.len()).collect();
-        assert!(held.iter().zip(&good[64..]).all(|(place, byte)| package[*place] == *byte));
-        let (mut frame, mut offsets, mut refused) = (0, 0, 0);
-        for place in 0..good.len() {
-            let mut changed = good.to_vec();
-            changed[place] ^= 1 << (place % 7);
-            let mut output = vec![0; 2 * good.len()];
-            let (mut code, mut length) = elf::read_either(&changed, &mut output);
-            if code == OUTPUT_TOO_SHORT {
-                output = vec![0; length];
-                (code, length) = elf::read_either(&changed, &mut output);
-            }
-            if code != 0 {
-                refused += 1;
-                continue;
-            }
-            if !verify(&output[..length], &bundle).unwrap().faults.is_empty() {
-                continue;
-            }
-            match place.checked_sub(64).and_then(|at| held.get(at)) {
-                None => frame += 1,
-                Some(at) if owner(&package, *at) == Owner::OffsetOfNothing => offsets += 1,
-                Some(at) => {
-                    panic!("version {version}, byte {place} ({:?}) is changed and not noticed", owner(&package, *at))
-                }
-            }
-        }
-        let outside = good.len() - held.len();
-        println!(
-            "version {version}: of {} bytes unnoticed {offsets} of empty parts' offsets and {frame} of {outside} outside sections; \
-             {refused} make the file unreadable",
-            good.len()
-        );
-        assert!(offsets <= 32 && refused > 50 && frame < outside, "{offsets} {refused} {frame}");
-        places += good.len();
-    }
-    assert!(places > 5_000, "{places}");
-}
-
-/// A byte between the parts, which a package made by others may have, is nobody's: its change is not noticed, and nothing is lost.
-#[test]
-fn a_byte_of_nobody_may_change() {
-    let bundle = bytes(BUNDLE);
-    let mut good = bytes(PACKAGE);
-    assert_eq!((good[36], owner(&good, 36)), (0, Owner::Held));
-    // The abbrev part of the only row made empty: now its byte belongs to nobody.
-    let abbrev = good.len() - 8;
-    assert_eq!(good[abbrev], 1);
-    good[abbrev] = 0;
-    assert_eq!(owner(&good, 36), Owner::Nobody);
-    let told = verify(&good, &bundle).unwrap().faults;
-    assert_eq!(told.len(), 1);
-    assert!(told[0].what.contains("its abbrev has 0 bytes in the package and 1 in the file"), "{told:?}");
-    let mut changed = good.clone();
-    changed[36] ^= 1;
-    assert_eq!(verify(&changed, &bundle).unwrap().faults, told);
+    assert!(output.contains("barthovin: in changed.dwo, as this program reads it: unit cu 0x"), "{output}");
+    assert!(output.contains(": its string ") && output.contains(" is another in the package\n"), "{output}");
 }
 
 /// The string that docs/OPENING.md finds by hand, byte for byte.

@@ -6,10 +6,8 @@ use super::input::Most;
 use super::refusals::{without_debug, Refusal, Refusals};
 use super::uncarried::Uncarried;
 use super::{input, progress, show, stop, Stop};
-use crate::answer::Found;
 use crate::elf;
 use crate::explain;
-use crate::ffi;
 use crate::join;
 use crate::lent::Lent;
 use crate::names::{LONGEST_BUNDLE, LONGEST_PACKAGE, OUTPUT_TOO_SHORT};
@@ -24,6 +22,9 @@ pub const LONGEST_FILE: usize = 1 << 30;
 
 /// What is packed: bundles, and ELF files.
 const BUNDLE_OR_ELF: Most = Most { magic: elf::MAGIC, with: LONGEST_FILE, without: LONGEST_BUNDLE };
+
+/// What a package is: its words, or an ELF file of them.
+const PACKAGE_OR_ELF: Most = Most { without: LONGEST_PACKAGE, ..BUNDLE_OR_ELF };
 
 /// The bytes of a word.
 const WORD: usize = 4;
@@ -78,8 +79,7 @@ pub fn read_package(call: &Call, name: &OsStr) -> Result<Taken, Stop> {
 /// The same with the file's own bytes where they aren't the package's.
 pub fn read_package_and_file(call: &Call, name: &OsStr) -> Result<(Taken, Option<Vec<u8>>), Stop> {
     let (mut bytes, shown) = (Vec::new(), input::shown(name));
-    let most = Most { without: LONGEST_PACKAGE, ..BUNDLE_OR_ELF };
-    progress::shown("reading the package".to_string(), || input::read_into(name, &most, &mut bytes))?;
+    progress::shown("reading the package".to_string(), || input::read_into(name, &PACKAGE_OR_ELF, &mut bytes))?;
     if !bytes.starts_with(elf::MAGIC) {
         return Ok((Taken { bytes: bytes.into(), is_elf: false, machine: None, shown }, None));
     }
@@ -96,12 +96,33 @@ pub fn note_without_index(shown: &str, package: &[u8]) {
     }
 }
 
-/// The same of one that is a package. That it is the proved lookup says, to any question.
+/// The same of one that is a package: the proved opening says so, and gives its words whichever form it has.
 pub fn good_package(call: &Call, name: &OsStr) -> Result<Taken, Stop> {
-    let package = read_package(call, name)?;
-    match ffi::lookup(&package.bytes, 5, 1, 1, 1) {
-        Found::Refused(NOT_A_PACKAGE) => Err(no_package(call, name, &package.bytes)),
-        _ => Ok(package),
+    let (mut bytes, shown) = (Vec::new(), input::shown(name));
+    progress::shown("reading the package".to_string(), || input::read_into(name, &PACKAGE_OR_ELF, &mut bytes))?;
+    let is_elf = bytes.starts_with(elf::MAGIC);
+    let machine = elf::machine_of(&bytes);
+    match opened(&bytes) {
+        Ok(words) => Ok(Taken { bytes: words, is_elf, machine, shown }),
+        Err(NOT_A_PACKAGE) if is_elf => Err(no_package(call, name, &from_elf(call, &bytes, &shown)?)),
+        Err(NOT_A_PACKAGE) => Err(no_package(call, name, &bytes)),
+        Err(number) => Err(refused_call(call, &shown, number, explain::reading_elf(&bytes, number))),
+    }
+}
+
+/// The words of a package, or the refusal's number. What an ELF file has is rarely longer than the file.
+fn opened(file: &[u8]) -> Result<Lent<u8>, u32> {
+    let mut words = Lent::zeros(file.len().min(LONGEST_PACKAGE));
+    let (mut code, mut length) = join::open(file, &mut words);
+    if code == OUTPUT_TOO_SHORT {
+        words = Lent::zeros(length);
+        (code, length) = join::open(file, &mut words);
+    }
+    words.truncate(length);
+    if code == 0 {
+        Ok(words)
+    } else {
+        Err(code)
     }
 }
 
@@ -318,13 +339,15 @@ impl Joined {
         };
         told.iter().for_each(|told| stop::note(told));
     }
-}
 
-/// The same of a bundle that was handed in alone.
-pub fn not_a_bundle(call: &Call, shown: &str, bytes: &[u8]) -> Stop {
-    let refusal = Refusal::of_bundle(shown, bytes);
-    match refusal.number {
-        Some(_) => refusal.stop(call),
-        None => Stop::Trouble(refusal.line()),
+    /// Says how many objects have no unit, as the host reads the bundle: nothing can be looked for there.
+    pub fn note_without_units(&self) {
+        let Some((without, objects)) = explain::without_units(&self.bundle).filter(|(without, _)| *without > 0) else {
+            return;
+        };
+        let (of, have) = (show::count(objects, "object"), if without == 1 { "has" } else { "have" });
+        stop::note(&format!(
+            "{without} of {of} {have} no unit, as this program reads them: nothing is looked for there"
+        ));
     }
 }

@@ -106,13 +106,14 @@ const VERIFY: &str = "\
 Usage: barthovin verify [OPTION]... PACKAGE FILE...
 Look for every unit of the files in a package, with its parts and strings, and say whether the files may be deleted.
 
-PACKAGE is a file, as it is or as an ELF file (.dwp); FILE is what was packed into it, in the same order: ELF files (.dwo), bundles or
-@LIST, as pack takes it, and not PACKAGE itself. One of them may be - for standard input. Parts are compared byte for byte and strings
-letter for letter where the proved lookups find them. Of type units with one signature the package has the first; the others are often in
-other bytes, since they count strings and abbreviations as their own file does. Of the files only the debug sections are compared, the
-rest is not in the package. Then the files are packed again, and the proved comparison has to say that the package answers as theirs does;
-files that can't be packed together are to be kept. How many files were read is said, and how many objects they have; where no unit was
-looked for, or a file has code or data besides, that is said, and it is to be kept.
+PACKAGE is a file, as it is or as an ELF file (.dwp), of any maker; FILE is what was packed into it, in the same order: ELF files (.dwo),
+bundles or @LIST, as pack takes it, and not PACKAGE itself. One of them may be - for standard input. The files are packed again, and the
+proved comparison has to say that the package answers as what they make does: parts byte for byte, strings letter for letter. Files that
+can't be packed together are to be kept. Where the package answers otherwise the first place is said, and the file that has the unit, as
+this program reads it. Of type units with one signature the package has the first, and that one is looked for; the others are often in
+other bytes, since they count strings and abbreviations as their own file does. They are counted besides. Where files were added to a
+package, a copy of that package in front stands for those that were packed before. Of the files only the debug sections are compared, the
+rest is not in the package. Where no unit was looked for, or a file has code or data besides, that is said, and it is to be kept.
 
       --json      write the answer as a JSON object
   -h, --help      show this help and exit

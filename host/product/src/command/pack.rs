@@ -60,7 +60,7 @@ pub fn run(arguments: &[OsString]) -> Result<u8, Stop> {
     let joined = join(&call, earlier.as_ref().map(|earlier| &earlier.file), &names)?;
     let about = format!("packing {}, {} bytes", show::count(names.len(), "file"), joined.bundle.len());
     let packed = progress::shown(about, || packed(&joined.bundle));
-    let (package, skipped) = packed.map_err(|number| told(&call, &names, earlier.as_ref(), &joined, number))?;
+    let (package, skipped) = packed.map_err(|number| refusal(&call, &names, earlier.as_ref(), &joined, number))?;
     joined.note_left_out(names.len());
     joined.uncarried.lines().iter().for_each(|line| stop::note(line));
     let added = earlier.as_ref().map(|earlier| earlier.added(names.len() - joined.left_out.len()));
@@ -240,7 +240,7 @@ fn all_told(call: &Call, joined: &Joined, first: u32) -> Option<Stop> {
 }
 
 /// The refusal of what was joined, by the file that it comes from where that is known.
-fn told(call: &Call, operands: &[OsString], earlier: Option<&Earlier>, joined: &Joined, number: u32) -> Stop {
+pub fn refusal(call: &Call, operands: &[OsString], earlier: Option<&Earlier>, joined: &Joined, number: u32) -> Stop {
     let names = Names { files: &joined.files };
     if matches!(number, 4..=16 | 34) && joined.files.len() > 1 {
         if let Some(stop) = all_told(call, joined, number) {
@@ -263,7 +263,7 @@ fn told(call: &Call, operands: &[OsString], earlier: Option<&Earlier>, joined: &
 
 /// What most packages of a bundle fit in. An index makes a package longer than its bundle, by less than a sixteenth where units have a kilobyte; strings and type
 /// units that are kept once make it shorter. What is lent is cleared, which takes time, so that a long bundle isn't lent twice its length.
-pub fn usual(bundle: usize) -> usize {
+fn usual(bundle: usize) -> usize {
     match bundle < LONG {
         true => 2 * bundle,
         false => bundle + bundle / 16,
@@ -271,7 +271,7 @@ pub fn usual(bundle: usize) -> usize {
 }
 
 /// The package and what was skipped, or the refusal's number.
-fn packed(bundle: &[u8]) -> Result<(Lent<u8>, Skipped), u32> {
+pub fn packed(bundle: &[u8]) -> Result<(Lent<u8>, Skipped), u32> {
     let mut work = Lent::zeros(bundle.len() / 4 * WORK_FOR_A_WORD);
     // Most packages fit; where one doesn't, the refusal names the length that it needs.
     let mut output = Lent::zeros(usual(bundle.len()));

@@ -1,21 +1,24 @@
-//! `barthovin verify`: whether a package holds all that files were packed into it, before they are deleted.
+//! `barthovin verify`: whether a package holds all that files were packed into it, before they are deleted. The proved functions join, open, pack, count
+//! and compare. Which file hands a unit in is read by the host, and said so.
 
 use super::call::{Call, Known};
-use super::files::{good_package, join, listed, not_a_bundle, Joined};
-use super::meaning::meaning;
-use super::pack::usual;
+use super::files::{good_package, join, listed, Joined};
+use super::pack::{packed, refusal};
 use super::{guard, input, output, progress, show, Stop, DONE, NOT_DONE};
-use crate::ffi::Skipped;
+use crate::answer::Found;
+use crate::counted::{version, Counts};
+use crate::explain;
+use crate::ffi::{self, Skipped};
 use crate::lent::Lent;
-use crate::names::{section_name, OUTPUT_TOO_SHORT, STR, WORK_FOR_A_WORD};
-use crate::verify::{verify, Fault, Report, Unit};
+use crate::names::{section_name, STR, WORK_FOR_A_WORD};
+use crate::units::Unit;
 use crate::verifying::{self, Verified, NOT_VERIFIED};
 use std::ffi::OsString;
 
 const OPTIONS: [Known; 1] = [Known { long: "json", short: None, value: false }];
 
-/// So many faults are told one by one.
-const TOLD: usize = 20;
+/// The table of type units.
+const TYPE_UNITS: u32 = 2;
 
 pub fn run(arguments: &[OsString]) -> Result<u8, Stop> {
     let call = match Call::read("verify", &OPTIONS, arguments)? {
@@ -31,136 +34,164 @@ pub fn run(arguments: &[OsString]) -> Result<u8, Stop> {
         let told = "it is the package itself, which is no copy of it: name the files that were packed";
         return Err(Stop::Trouble(format!("{}: {told}", input::shown(file))));
     }
-    let package_bytes = good_package(&call, name)?.bytes;
+    let package = good_package(&call, name)?.bytes;
     let joined = join(&call, None, &files)?;
     joined.note_left_out(files.len());
-    let about = format!("looking for {} in the package", show::count(files.len(), "file"));
-    let report = progress::shown(about, || verify(&package_bytes, &joined.bundle));
-    // Several files were taken apart when they were joined.
-    let report = report.map_err(|_| not_a_bundle(&call, &input::shown(&files[0]), &joined.bundle))?;
-    let faults = report.faults.iter().map(|fault| named(fault, &joined, &files));
-    let faults: Vec<(String, String)> = faults.chain(joined.uncarried.faults()).collect();
-    let verified = faults.is_empty() && report.units > 0;
-    if call.has("json") {
-        let verified = verified && proved(&package_bytes, &joined, report.version).code == 0;
-        output::print(&json(&report, files.len(), &joined.with_code, verified, &faults))?;
-        return Ok(if verified { DONE } else { NOT_DONE });
+    let about = format!("packing {} again", show::count(files.len(), "file"));
+    let (ours, skipped) = progress::shown(about, || packed(&joined.bundle))
+        .map_err(|number| cant_be_packed(number, &joined, refusal(&call, &files, None, &joined, number)))?;
+    let counts = Counts::of(&ours, skipped)
+        .map_err(|number| Stop::Trouble(format!("the files' own package is refused {number} by the sheet")))?;
+    joined.note_without_units();
+    let version = version(&ours);
+    let report = Report { package: input::shown(name), files, counts, joined };
+    if counts.units == 0 {
+        return report.told(&call, None);
     }
-    let package = input::shown(name);
-    if !faults.is_empty() {
-        return Err(Stop::Refused(not_found(&package, &report, &faults)));
-    }
-    let read = read(&report, files.len());
-    if !verified {
-        let told = format!("{package}: not verified: {read}: no unit was looked for: keep the files");
-        return Err(Stop::Refused(told));
-    }
-    let proved =
-        progress::shown("packing again, and comparing".to_string(), || proved(&package_bytes, &joined, report.version));
-    if let Some(why) = why_not(proved) {
-        return Err(Stop::Refused(format!(
-            "{package}: not verified: {read}: {}; but {why}: keep the files",
-            found(&report)
-        )));
-    }
-    output::print(&format!("{read}: {}; {}", found(&report), may_go(files.len(), &joined.with_code)))
+    let about = "comparing the package with what the files make".to_string();
+    let told = progress::shown(about, || compared(&report.joined.bundle, &package, version, ours.len()));
+    report.told(&call, report.fault(told, &package, version)?)
 }
 
-/// The proved function's word: the files are packed again, and the package has to answer as theirs does.
-fn proved(package: &[u8], joined: &Joined, version: u32) -> Verified {
-    let bundle = &joined.bundle;
-    let mut work = Lent::zeros(bundle.len() / 4 * WORK_FOR_A_WORD);
-    let mut output = Lent::zeros(usual(bundle.len()));
-    let told = verifying::verify(bundle, (&mut work, &mut output), package, version);
-    if told.code != OUTPUT_TOO_SHORT {
-        return told;
+/// What packing says of a single file that is no bundle.
+const NO_BUNDLE: [u32; 2] = [1, 3];
+
+/// What packing says of files that it refuses, and that no one knows then whether they are in the package.
+fn cant_be_packed(number: u32, joined: &Joined, refusal: Stop) -> Stop {
+    let is_no_bundle = joined.files.is_empty() && NO_BUNDLE.contains(&number);
+    let keep = "not verified: what can't be packed again can't be compared: keep the files";
+    match refusal {
+        Stop::Refused(told) if !is_no_bundle => Stop::Refused(format!("{told}\nbarthovin: {keep}")),
+        other => other,
     }
-    output = Lent::zeros(told.length);
+}
+
+/// The proved function's word: the package has to answer as the one that the files make, which is so long.
+fn compared(bundle: &[u8], package: &[u8], version: u32, length: usize) -> Verified {
+    let mut work = Lent::zeros(bundle.len() / 4 * WORK_FOR_A_WORD);
+    let mut output = Lent::zeros(length);
     verifying::verify(bundle, (&mut work, &mut output), package, version)
 }
 
-/// Why the proved function doesn't say yes.
-fn why_not(told: Verified) -> Option<String> {
-    match told.code {
-        0 => None,
-        NOT_VERIFIED if told.section == 0 => {
-            Some("the package states another byte order, version or width".to_string())
+/// A file and what is wrong there.
+type Fault = (String, String);
+
+/// What is told of a package and files.
+struct Report {
+    package: String,
+    files: Vec<OsString>,
+    counts: Counts,
+    joined: Joined,
+}
+
+impl Report {
+    /// The first fault, where the package isn't verified.
+    fn fault(&self, told: Verified, package: &[u8], version: u32) -> Result<Option<Fault>, Stop> {
+        match told.code {
+            0 => Ok(None),
+            NOT_VERIFIED if told.section == 0 => {
+                let what = "it states another byte order, DWARF version, offset width or address size than the files";
+                Ok(Some((self.package.clone(), what.to_string())))
+            }
+            NOT_VERIFIED => Ok(Some((self.file_of(told), what(told, package, version)))),
+            number => {
+                Err(Stop::Trouble(format!("{}: the comparison is refused {number}: keep the files", self.package)))
+            }
         }
-        NOT_VERIFIED => {
-            let unit = Unit { table: told.table, identity: told.identity };
-            Some(format!("{unit} is answered otherwise at {}, by the proved comparison", place(told)))
+    }
+
+    /// The file that hands a unit in first, as the host reads the files.
+    fn file_of(&self, told: Verified) -> String {
+        let Some(object) = explain::handed_in(&self.joined.bundle, told.table, told.identity) else {
+            return self.package.clone();
+        };
+        let file = self.joined.files.get(object - 1).cloned();
+        let file = file.unwrap_or_else(|| format!("{}, object {object}", input::shown(&self.files[0])));
+        format!("in {file}, as this program reads it")
+    }
+
+    fn told(&self, call: &Call, first: Option<Fault>) -> Result<u8, Stop> {
+        let faults: Vec<Fault> = first.into_iter().chain(self.joined.uncarried.faults()).collect();
+        let verified = faults.is_empty() && self.counts.units > 0;
+        if call.has("json") {
+            output::print(&self.json(verified, &faults))?;
+            return Ok(if verified { DONE } else { NOT_DONE });
         }
-        number => Some(format!(
-            "the proved comparison packs the files again, and that is refused by {number} ({})",
-            meaning(number)
-        )),
+        if verified {
+            return output::print(&format!("{}: all found{}; {}", self.looked_for(), self.besides(), self.may_go()));
+        }
+        let mut told = format!("{}: not verified: {}", self.package, self.looked_for());
+        if self.counts.units == 0 {
+            told += ": no unit was looked for";
+        }
+        faults.iter().for_each(|(file, what)| told += &format!("\nbarthovin: {file}: {what}"));
+        Err(Stop::Refused(told + "\nbarthovin: keep the files"))
+    }
+
+    /// How many files were read, and what is looked for.
+    fn looked_for(&self) -> String {
+        let Counts { units, strings, .. } = self.counts;
+        let files = show::count(self.files.len(), "file");
+        format!("{files}: {}, {}", show::count(units, "unit"), show::count(strings, "string"))
+    }
+
+    /// The type units that aren't in the package by themselves.
+    fn besides(&self) -> String {
+        match self.counts.skipped {
+            Skipped { repeats: 0, namesakes: 0 } => String::new(),
+            skipped => format!("; besides, {}, of whose signatures the package has the first", show::skipped(skipped)),
+        }
+    }
+
+    /// Which files may be deleted: an object file that was not split holds its debug sections beside the program's.
+    fn may_go(&self) -> String {
+        let with_code = &self.joined.with_code;
+        let Some((last, others)) = with_code.split_last() else { return "the files may be deleted".to_string() };
+        let names = match others {
+            [] => format!("{last} has code or data besides: keep it"),
+            _ => format!("{} and {last} have code or data besides: keep them", others.join(", ")),
+        };
+        let rest = if with_code.len() < self.files.len() { "; the other files may be deleted" } else { "" };
+        format!("{names}{rest}")
+    }
+
+    fn json(&self, verified: bool, faults: &[Fault]) -> String {
+        let fault = |(file, what): &Fault| format!("{{\"file\":{},\"what\":{}}}", show::json(file), show::json(what));
+        let faults: Vec<String> = faults.iter().map(fault).collect();
+        let with_code: Vec<String> = self.joined.with_code.iter().map(|file| show::json(file)).collect();
+        let Counts { units, strings, skipped: Skipped { repeats, namesakes } } = self.counts;
+        let counts = format!("\"units\":{units},\"repeats\":{repeats},\"namesakes\":{namesakes},\"strings\":{strings}");
+        format!(
+            "{{\"verified\":{verified},{counts},\"files\":{},\"with_code\":[{}],\"faults\":[{}]}}",
+            self.files.len(),
+            with_code.join(","),
+            faults.join(",")
+        )
     }
 }
 
-fn place(told: Verified) -> String {
-    match told.section {
-        STR => format!("the string of entry {}", told.entry),
-        section => section_name(section).to_string(),
+/// How the package answers otherwise, at the place that the comparison names. What is asked there once more is a proved lookup.
+fn what(told: Verified, package: &[u8], version: u32) -> String {
+    let Verified { table, section, identity, entry, .. } = told;
+    let unit = Unit { table, identity };
+    let asked = if section == STR { 1 } else { section };
+    match ffi::lookup(package, version, table, identity, asked) {
+        Found::Absent(_) => format!("{unit}: it is not in the package"),
+        _ if section == STR => format!("{unit}: its string {entry} is another in the package{}", question(table)),
+        Found::Refused(number) => format!("{unit}: the lookup of its {} is refused {number}", section_name(section)),
+        Found::Part { .. } => {
+            format!("{unit}: its {} is another in the package{}", section_name(section), question(table))
+        }
     }
 }
 
-/// A fault's file and what is wrong there.
-fn named(fault: &Fault, joined: &Joined, files: &[OsString]) -> (String, String) {
-    let file = joined.files.get(fault.object - 1).cloned();
-    let file = file.unwrap_or_else(|| format!("{}, object {}", input::shown(&files[0]), fault.object));
-    let unit = fault.unit.map(|unit| format!("{unit}: ")).unwrap_or_default();
-    (file, format!("{unit}{}", fault.what))
-}
-
-/// What was read.
-fn read(report: &Report, files: usize) -> String {
-    let without = match report.without_units {
-        0 => String::new(),
-        count => format!(" ({count} without a unit)"),
-    };
-    format!("{}, {}{without}", show::count(files, "file"), show::count(report.objects, "object"))
-}
-
-fn counts(report: &Report) -> String {
-    format!("{}, {}", show::count(report.units, "unit"), show::count(report.strings, "string"))
-}
-
-fn found(report: &Report) -> String {
-    let skipped = Some(report.skipped).filter(|skipped| *skipped != Skipped::default());
-    let skipped = skipped.map(|skipped| format!("; {}", show::skipped(skipped))).unwrap_or_default();
-    format!("{}: all found{skipped}", counts(report))
-}
-
-/// Which files may be deleted: an object file that was not split holds its debug sections beside the program's.
-fn may_go(files: usize, with_code: &[String]) -> String {
-    let Some((last, others)) = with_code.split_last() else { return "the files may be deleted".to_string() };
-    let names = match others {
-        [] => format!("{last} has code or data besides: keep it"),
-        _ => format!("{} and {last} have code or data besides: keep them", others.join(", ")),
-    };
-    let rest = if with_code.len() < files { "; the other files may be deleted" } else { "" };
-    format!("{names}{rest}")
-}
-
-fn not_found(package: &str, report: &Report, faults: &[(String, String)]) -> String {
-    let mut told = format!("{package}: not verified: {} of {}", show::count(faults.len(), "fault"), counts(report));
-    faults.iter().take(TOLD).for_each(|(file, what)| told += &format!("\nbarthovin: {file}: {what}"));
-    if faults.len() > TOLD {
-        told += &format!("\nbarthovin: and {} more", faults.len() - TOLD);
+/// A type unit that is there in another form need not be damaged.
+fn question(table: u32) -> &'static str {
+    match table {
+        TYPE_UNITS => {
+            "; that of another file is there where one came first: name all files in the order in which they were packed, \
+             or in front of those that were added a copy of the package that they were added to"
+        }
+        _ => "",
     }
-    told + "\nbarthovin: keep the files"
-}
-
-fn json(report: &Report, files: usize, with_code: &[String], verified: bool, faults: &[(String, String)]) -> String {
-    let fault =
-        |(file, what): &(String, String)| format!("{{\"file\":{},\"what\":{}}}", show::json(file), show::json(what));
-    let faults: Vec<String> = faults.iter().map(fault).collect();
-    let with_code: Vec<String> = with_code.iter().map(|file| show::json(file)).collect();
-    let Report { objects, units, skipped: Skipped { repeats, namesakes }, strings, .. } = report;
-    let counts = format!("\"units\":{units},\"repeats\":{repeats},\"namesakes\":{namesakes},\"strings\":{strings}");
-    format!(
-        "{{\"verified\":{verified},{counts},\"files\":{files},\"objects\":{objects},\"with_code\":[{}],\"faults\":[{}]}}",
-        with_code.join(","),
-        faults.join(",")
-    )
 }

@@ -6,7 +6,7 @@
 use crate::ffi;
 use crate::names::WORK_FOR_A_WORD;
 use crate::reader::bundle::{put_end, put_section, Bundle, Object};
-use crate::reader::unit::{is_of_units, spans, Span};
+use crate::reader::unit::{is_of_units, spans, Identities, Span};
 use std::time::{Duration, Instant};
 
 /// After this time no more is asked, and what was found by then is told.
@@ -85,4 +85,20 @@ fn cut(before: &[u8], object: &Object, last: Option<&Span>) -> Vec<u8> {
         put_section(&mut front, section.code, kept);
     }
     front
+}
+
+/// The object, counted from 1, that hands a unit in first, as the host reads the bundle.
+pub fn handed_in(bytes: &[u8], table: u32, identity: u64) -> Option<usize> {
+    let bundle = Bundle::read(bytes).ok()?;
+    let has = |object: &Object| {
+        let identities = Identities::of(object);
+        spans(object).iter().any(|span| identities.identity(span) == Ok((table, identity)))
+    };
+    bundle.objects.iter().position(has).map(|at| at + 1)
+}
+
+/// How many objects have no unit, and how many objects there are.
+pub fn without_units(bytes: &[u8]) -> Option<(usize, usize)> {
+    let bundle = Bundle::read(bytes).ok()?;
+    Some((bundle.objects.iter().filter(|object| spans(object).is_empty()).count(), bundle.objects.len()))
 }

@@ -1,16 +1,18 @@
-//! Whether a package holds what was packed: each unit of a bundle with its parts and strings, found again through the proved lookups.
+//! A second opinion on whether a package holds what was packed: each unit of a bundle with its parts and strings, found again through the proved lookups.
+//! It was the command's own before there was a proved comparison, and shares no code with that one.
 //!
 //! What to ask is read from the bundle by `reader`; what the package answers is the proved functions' word. A part is compared byte for byte,
 //! one of str_offsets by its header, its length and the string of each entry.
 
-use crate::answer::Found;
-use crate::batch;
-use crate::ffi::{self, Skipped};
-use crate::names::{section_name, table_name, RNGLISTS, STR, STR_OFFSETS};
-use crate::reader::bundle::{Bundle, Object};
-use crate::reader::index::Index;
-use crate::reader::number;
-use crate::reader::unit::{spans, Identities, Span, Why};
+use barthovin::answer::Found;
+use barthovin::batch;
+use barthovin::ffi::{self, Skipped};
+use barthovin::names::{section_name, RNGLISTS, STR, STR_OFFSETS};
+use barthovin::reader::bundle::{Bundle, Object};
+use barthovin::reader::index::Index;
+use barthovin::reader::number;
+use barthovin::reader::unit::{spans, Identities, Span, Why};
+use barthovin::units::Unit;
 use std::collections::{HashMap, HashSet};
 use std::ops::Range;
 
@@ -36,18 +38,6 @@ pub struct Fault {
     pub object: usize,
     pub unit: Option<Unit>,
     pub what: String,
-}
-
-#[derive(Clone, Copy, Debug, PartialEq, Eq)]
-pub struct Unit {
-    pub table: u32,
-    pub identity: u64,
-}
-
-impl std::fmt::Display for Unit {
-    fn fmt(&self, out: &mut std::fmt::Formatter) -> std::fmt::Result {
-        write!(out, "unit {} {:#018x}", table_name(self.table), self.identity)
-    }
 }
 
 /// A part that a unit was handed in with: the section's code and the bytes' place in the bundle.
