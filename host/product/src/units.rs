@@ -4,6 +4,7 @@
 use crate::names::{section_name, table_name, CU_INDEX, TU_INDEX};
 use crate::reader::bundle::{Bundle, Object};
 use crate::reader::index::Index;
+use crate::reader::number;
 use crate::reader::unit::{spans, Identities};
 use std::collections::BTreeSet;
 
@@ -36,10 +37,15 @@ pub fn units(bytes: &[u8]) -> Result<Units, String> {
     Ok(units)
 }
 
-/// Those that can be found through the indexes of a package.
+/// Where an index has the number of its units.
+const COUNT: usize = 8;
+
+/// Those that can be found through the indexes of a package. One that counts no unit has none, ill-formed or not: GNU dwp writes such.
 fn add_indexes(object: &Object, units: &mut Units) -> Result<(), String> {
     for (table, code) in [(1, CU_INDEX), (2, TU_INDEX)] {
-        for section in object.sections.iter().filter(|section| section.code == code) {
+        let has_none = |bytes: &[u8]| number(bytes, COUNT, 4, object.encoding.big) == Some(0);
+        let sections = object.sections.iter().filter(|section| section.code == code);
+        for section in sections.filter(|section| !has_none(section.bytes)) {
             let index = Index::read(section.bytes, object.encoding.big);
             let index = index.map_err(|why| format!("{}: {why}", section_name(code)))?;
             let used = index.slots.iter().filter(|(_, row)| *row > 0);
@@ -86,8 +92,9 @@ mod tests {
         assert_eq!(units(&bundle(&[5, 6, 5])), Ok(Units::from([(1, 1), (2, 2), (1, 3)])));
         let mut package = bundle(&[5, 6]);
         package.truncate(package.len() - 4);
-        // No columns, one unit, two slots.
+        // No columns, one unit, two slots; and GNU dwp's index of no unit.
         let index: [u32; 10] = [5, 0, 1, 2, 7, 0, 0, 0, 1, 0];
+        put_section(&mut package, CU_INDEX, &[2u32, 0, 0, 0].map(u32::to_le_bytes).concat());
         put_section(&mut package, TU_INDEX, &index.map(u32::to_le_bytes).concat());
         put_end(&mut package);
         assert_eq!(units(&package), Ok(Units::from([(2, 7)])));

@@ -218,7 +218,8 @@ fn what_is_no_package_is_told() {
     assert_eq!(text(&output), "{\"refused\":21,\"meaning\":\"this is no package\"}\n");
 }
 
-/// The types of one file, and another one with a section that they lack: the package can't be added to. That is said when it is made.
+/// The types of one file, and another one with a section that they lack: the package can't be added to. That is said when it is made; said by
+/// `--add` alone it comes when the files are gone.
 #[test]
 fn a_package_that_is_closed() {
     let home = directory("add-closed");
@@ -408,7 +409,7 @@ fn a_replaced_package_on_standard_input_is_told() {
     assert!(read(&home, "package") == after);
 }
 
-/// Files added at once, by two runs: all are there, each time.
+/// Files added at once, by two runs: all are there, each time. Without the lock the run that ends last drops what the other one added.
 #[test]
 fn two_runs_at_once_keep_both_files() {
     let (home, [main, race, other]) = to_be_added_to("add-at-once");

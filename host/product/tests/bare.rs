@@ -49,6 +49,7 @@ fn they_are_left_out_and_told() {
     told(&home, &verify, &format!("barthovin: bare.dwo is left out: {WITHOUT}\n"), 0);
 }
 
+/// Of an object file the `.dwo` file is wanted: who leaves it out loses a unit.
 #[test]
 fn they_are_refused_where_that_is_asked_or_nothing_is_left() {
     let home = home("bare-refused");

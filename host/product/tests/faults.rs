@@ -281,7 +281,7 @@ fn no_place(why: &str) -> String {
     format!("barthovin: out: no new file can take its place, since {why}: {hint}\n")
 }
 
-/// A file may only grow so long: the system refuses what is behind, or ends the run there.
+/// A file may only grow so long: the system refuses what is behind, or ends the run there. A run that empties the old file first has lost it.
 #[test]
 fn a_full_disk() {
     for mut scene in scenes("limit", [3_000, 20_000]) {

@@ -241,7 +241,7 @@ fn pipes_are_written_to() {
     assert_eq!(names(&home), ["out"]);
 }
 
-/// As root: a new file with the old one's owner, group and mode takes its place.
+/// As root: a new file with the old one's owner, group and mode takes its place, as in a container over another user's folder.
 #[test]
 fn the_owner_stays() {
     if !is_root() {

@@ -17,6 +17,7 @@ fn machine(name: &str) -> String {
     )
 }
 
+/// A machine that no file says is told: a debugger opens no package of another one.
 #[test]
 fn a_package_becomes_the_file_that_pack_writes() {
     let home = directory("form");
@@ -47,6 +48,7 @@ fn a_package_becomes_the_file_that_pack_writes() {
 }
 
 /// A package that packing takes no more: the command makes an ELF file of it all the same, and `pack` said it when it was written.
+/// By way of packing it again there would be none.
 #[test]
 fn a_closed_package_becomes_a_file_too() {
     let home = directory("form-closed");
@@ -64,7 +66,7 @@ fn a_closed_package_becomes_a_file_too() {
     assert_eq!(done(&home, &["pack", &main, "-o", "open.package"]), "");
 }
 
-/// An ELF file to which files are added stays one, also where it names no machine.
+/// An ELF file to which files are added stays one, also where it names no machine. By the output's name alone it would become one that no debugger opens.
 #[test]
 fn an_elf_file_stays_one() {
     let home = directory("form-stays");
@@ -84,6 +86,7 @@ fn an_elf_file_stays_one() {
 const TYPES: &str = "F0000000 10080404 20800000 21000018 14 4 7080000 0 0 0 21800009 B1001101 742 0 3000000F";
 const NOTHING: &str = "F0000000 30000002";
 
+/// Who is told later has no package and no files any more.
 #[test]
 fn a_file_that_no_reader_opens_is_told_before_it_is_written() {
     let home = directory("form-unreadable");

@@ -249,6 +249,7 @@ fn below(folder: &Path) -> Vec<String> {
 /// As root, whose PATH has neither the checker nor cargo.
 const WITHOUT_TOOLS: &str = "/usr/bin:/bin";
 
+/// All of it: the papers for the box and the pkg-config file too.
 #[test]
 fn what_is_built_is_installed_without_the_tools() {
     let home = built("install");

@@ -43,6 +43,7 @@ fn said(home: &Path, script: &str) -> String {
     text(&output)
 }
 
+/// A file that is named as the output too, under any name that leads to it.
 #[test]
 fn an_output_that_is_read_is_left_alone() {
     let home = laid_out("guard-read");
@@ -203,22 +204,17 @@ fn a_bundle_with_other_units_is_left_alone() {
     assert_eq!(told, "main.bundle: the bundle that was there is replaced, with 1 unit: all are in the new one\n");
 }
 
-/// What starts as a bundle or a package, and can't be read, may be a damaged copy of what is nowhere else. GNU dwp's empty index is such a fault.
+/// What starts as a bundle or a package, and can't be read, may be a damaged copy of what is nowhere else.
 #[test]
 fn what_cant_be_read_is_left_alone() {
     let home = laid_out("guard-damaged");
-    said(&home, "$B pack main.dwo -o package; $B pack main.dwo -o package.dwp; head -c 600 package > cut");
     let unread = |name: &str, kind: &str, why: &str| {
         format!("{name}: it starts as a {kind}, and what it holds can't be read ({why})")
     };
-    let stops = unread("cut", "package", "the word at byte 436: a section of 215 bytes, more than follow");
-    let output = shell(&home, "$B pack race.dwo -o cut");
-    assert_eq!(status(&output), 2, "{}", message(&output));
-    assert!(
-        message(&output)
-            .starts_with("barthovin: cut: it starts as a package, and what it holds can't be read (the word at byte "),
-        "{stops}"
-    );
+    said(&home, "$B pack main.dwo -o package; $B pack main.dwo -o package.dwp; head -c 12 package > cut");
+    let stops = unread("cut", "package", "the word at byte 8: a section of 216 bytes, more than follow");
+    left_alone(&home, "$B pack main.dwo -o cut", &stops);
+    left_alone(&home, "$B bundle race.dwo -o cut", &stops);
     // A flag of .debug_info.dwo says that it is compressed.
     let mut file = fs::read(home.join("package.dwp")).unwrap();
     let number = |at: usize| file[at..at + 8].iter().rev().fold(0, |v, b| v << 8 | *b as usize);
@@ -244,6 +240,23 @@ fn a_package_is_replaced_by_one_with_more() {
     let told = "release.dwp: the package that was there is replaced, with 2 units: all are in the new one\n";
     assert_eq!(said(&home, "$B elf release.package --machine arm -o release.dwp"), told);
     assert_eq!(said(&home, "$B elf release.package --machine arm -o release.dwp"), "");
+}
+
+/// Where GNU dwp is at hand: its package of the same files, with an index of no unit, which is ill-formed, is replaced too.
+#[test]
+fn a_package_of_gnu_dwp_is_replaced() {
+    let home = directory("guard-gnu");
+    for name in ["main", "race"] {
+        fs::copy(format!("{FILES}/gcc-4-{name}.dwo"), home.join(format!("{name}.dwo"))).unwrap();
+    }
+    let made = shell(&home, "dwp main.dwo race.dwo -o release.dwp && $B list release.dwp");
+    if !message(&made).contains("refused 21: this is no package: tu_index is ill-formed: 0 slots for 0 units") {
+        return println!("GNU dwp is not at hand, or is another one: {}", message(&made));
+    }
+    let told = message(&shell(&home, "$B pack race.dwo -o release.dwp"));
+    assert!(told.contains("release.dwp: it is a package with 1 unit not in the new one, "), "{told}");
+    let told = "release.dwp: the package that was there is replaced, with 2 units: all are in the new one\n";
+    assert_eq!(said(&home, "$B pack main.dwo race.dwo -o release.dwp"), told);
 }
 
 #[test]

@@ -131,6 +131,7 @@ fn json_says_what_is_absent_or_refused() {
     assert_eq!(status(&output), 1);
 }
 
+/// Of a file without an index every command says so where it finds nothing: it would look like a package without that unit.
 #[test]
 fn lists_a_package() {
     let home = home("list");

@@ -78,6 +78,7 @@ fn packs_large_bundles() {
 const SKIPPED: &str = "F0000000 10080405 20800018 14 08060005 0 7 0 0 21800001 0
     10080405 20800030 14 08060005 0 7 0 0 14 08060005 0 7 0 1 21800001 0 3000001C";
 
+/// How many, and that namesakes are usual: who reads of hundreds of them for the first time takes them for damage.
 #[test]
 fn says_what_was_skipped() {
     let home = directory("skipped");
@@ -311,6 +312,7 @@ fn refuses_packages_of_version_5_with_the_cause() {
     refused(&home, &bytes(TYPE5), &format!("{fifteen}: {unit}: its object has cu_index, and no tu_index for it"));
 }
 
+/// One clear line each; a name without a letter is shown by quotes.
 #[test]
 fn fails_without_leaving_anything() {
     let home = directory("failed");

@@ -5,6 +5,7 @@ mod common;
 use common::*;
 use std::fs;
 
+/// Why not is said as what is so, not as a denied condition; as JSON the conditions stand as ever.
 #[test]
 fn says_yes_no_and_why() {
     let home = directory("profile");

@@ -29,7 +29,8 @@ fn units(list: &str) -> Vec<&str> {
     list.lines().filter(|line| line.starts_with("unit cu ")).collect()
 }
 
-/// Both compilers, both versions, both byte orders: strings by entry, in all the forms that they take.
+/// Both compilers, both versions, both byte orders: strings by entry, in all the forms that they take. Once the files are gone nothing else says which identity
+/// is which source's.
 #[test]
 fn every_compilation_unit_has_its_source() {
     let home = directory("sources");
@@ -78,7 +79,7 @@ fn a_unit_may_have_none() {
     assert!(!done(&home, &["sheet", "--pages", "package"]).contains("\nN "));
 }
 
-/// The sum on each page, and the length, are those of the file, a package or an ELF file.
+/// The sum on each page, and the length, are those of the file, a package or an ELF file. Nothing else notices a byte that changes later.
 #[test]
 fn a_page_has_the_files_sum() {
     let home = directory("sources-sum");
