@@ -148,6 +148,7 @@ fn the_page_finds_a_section_by_hand() {
     for kind in ["gcc-5-race", "clang-4be-race"] {
         let (long, bytes) = (file(kind), narrowed(&file(kind), 40));
         let short = Fields { big: bytes[5] == 2, bytes };
+        assert_eq!(short.at(count, 2), Fields { bytes: long.clone(), big: short.big }.at(60, 2));
         let header = |number: usize| short.at(headers, 4) + 40 * number;
         let table = short.at(header(short.at(names, 2)) + place, 4);
         let is_called = |at: &usize| short.bytes[table + short.at(*at + name, 4)..].starts_with(b".debug_info.dwo\0");

@@ -74,14 +74,15 @@ until the last one is packed. Where the output is the package itself, a new file
 waits for the first, and adds to what that one wrote.
 
 All files together make a bundle of at most 4,194,304 bytes: a package for each program, -g1 (gcc) or -gmlt (clang) for the longest files and no -g3
-make it shorter. A file that is there keeps its mode and owner, and its bytes until the new ones are on the disk: then a new file takes its place. Where
-none can, since it has more links, an owner that can't be given or a folder that takes no file, it is left alone without --force; with it the new bytes
-are copied over it, and it is said before where they stand whole meanwhile. Devices, pipes and what stands under /proc, as /dev/stdout, are written as they
-are.
+make it shorter.
+
+A file that is there keeps its mode and owner, and its bytes until the new ones are on the disk: then a new file takes its place. Where none can, since it
+has more links, an owner that can't be given or a folder that takes no file, it is left alone without --force; with it the new bytes are copied over
+it, and it is said before where they stand whole meanwhile. Devices, pipes and what stands under /proc, as /dev/stdout, are written as they are.
 
 What may be the only copy is left alone without --force: an output that is one of the files, a .dwo file, and a bundle or a package with a unit that is
-not in the new one, as files that are compiled anew are other units. A package whose units are all in the new one is replaced, and that is said; --add
-adds to it.
+not in the new one. Files that are compiled anew are other units, so a build removes its package first. A package whose units are all in the new one is
+replaced, and that is said; --add adds to it.
 
 Exit status: 0 written; 1 refused; 2 a wrong call, or a file that can't be read or written.";
 
