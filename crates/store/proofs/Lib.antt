@@ -1,0 +1,7 @@
+-- The law from filing to the package: what is filed holds what the definitions of package have filed, step by step, and the package is written of it.
+pub mod Checks
+pub mod Rows
+pub mod Holding
+pub mod Units
+pub mod Walks
+pub mod Packages
