@@ -3,5 +3,7 @@ pub mod Checks
 pub mod Rows
 pub mod Holding
 pub mod Units
+pub mod Turns
 pub mod Walks
 pub mod Packages
+pub mod Examples

@@ -32,15 +32,18 @@ use Rattle.store.proofs.Holding.{bytes_are, rows_are as kept_rows, Holds}
 use Rattle.store.proofs.Walks.{short_is, short_not, Ends, bundle_step}
 
 -- ---- objects that passed are read again
+passed_inputs : (f g : Filing) → pass f ≡ pass g → pass f.inputs ≡ pass g.inputs
+passed_inputs f g e = ap (λ (h : Filing). pass h.inputs) (pass_inj e)
+
 inputs_again : (b : List ℕ) (k : Bundle) (bases : BySection ℕ) (us : List Filed) (os : List Object) (f : Filing) → filing_from b k.big (first_word k.objects) bases us os ≡ pass f
     → inputs_of b k os ≡ pass f.inputs
 unfolding filing_from inputs_of
-inputs_again b k bases us [] f q = ap (λ (g : Filing). pass g.inputs) (pass_inj q)
+inputs_again b k bases us [] f q = passed_inputs (record { inputs = []; units = [] }) f q
 inputs_again b k bases us (o ∷ os) f q =
     let i = bind_pass (input_of b k.big (first_word k.objects) o) _ f q in
     let here = bind_pass (units_in i.0 bases us [] i.0.units) _ f i.2 in
     let rest = bind_pass (filing_from b k.big (first_word k.objects) (grown bases i.0) (us ++ here.0) os) _ f here.2 in
-    then_pass _ _ i.0 i.1 ∙ then_pass _ _ rest.0.inputs (inputs_again b k (grown bases i.0) (us ++ here.0) os rest.0 rest.1) ∙ ap (λ (g : Filing). pass g.inputs) (pass_inj rest.2)
+    then_pass _ _ i.0 i.1 ∙ then_pass _ _ rest.0.inputs (inputs_again b k (grown bases i.0) (us ++ here.0) os rest.0 rest.1) ∙ passed_inputs (record { inputs = i.0 ∷ rest.0.inputs; units = here.0 ++ rest.0.units }) f rest.2
 
 -- ---- a section that is too long refuses, whatever stands beside it
 one_long : (pre : List Section) (x : Section) (post : List Section) → leb (length x.bytes) section_limit ≡ false

@@ -28,10 +28,11 @@ use Rattle.package.specs.Filing.{Filed, Filing, unit_at, units_from, units_in, g
 use Rattle.package.specs.Pack.{all_used}
 use Rattle.package.proofs.Each.{each_head, each_tail, each_so, each_passed}
 use Rattle.package.proofs.Inputs.{InputParts, input_parts}
-use Rattle.store.specs.Stored.{Stored, Reading, codes, nothing_stored, section_bytes, filed_unit, filed_from, filed_section, unit_parts, filed_sections, if_short, with_strings, with_object, filed_object, filed_objects, version_of}
+use Rattle.store.specs.Stored.{Stored, Reading, codes, nothing_stored, section_bytes, filed_unit, filed_from, filed_rest, filed_section, unit_parts, filed_sections, if_short, with_strings, with_object, filed_object, filed_objects, version_of}
 use Rattle.store.proofs.Checks.{Alike, alike_pass, alike_refuse, alike_are, alike_bind, alike_same, alike_right, two_steps}
 use Rattle.store.proofs.Holding.{Holds, holds_none}
 use Rattle.store.proofs.Units.{After, unit_step}
+use Rattle.store.proofs.Turns.{from_end, from_unit}
 
 -- ---- the units of a section
 -- one of them, and what goes on behind it, where the rest of the section is known
@@ -59,25 +60,17 @@ module _ (b : List ℕ) (i : Input) (version : ℕ) (versions : i.encoding.versi
     abbrev bytes : List ℕ
     bytes = part b p.start p.size
 
-    from_end : (n at : ℕ) (s : Stored) → leb (length bytes) at ≡ true → filed_from (suc n) r at s ≡ pass s
-    unfolding filed_from section_bytes
-    from_end n at s t = rw (filed_from, t)
-
-    from_unit : (n at : ℕ) (s : Stored) → leb (length bytes) at ≡ false → filed_from (suc n) r at s ≡ (filed_unit r at s >>= λ f. filed_from n r f.next f.stored)
-    unfolding filed_from section_bytes
-    from_unit n at s t = rw (filed_from, t)
-
     pub units_step : (n at : ℕ) (here : List Filed) (s : Stored) → Holds b version bases used (earlier ++ here) s
         → Alike Filled (filed_from n r at s) (units_from n i bases earlier here p.code at (drop at bytes))
-    unfolding filed_from units_from
+    unfolding filed_from units_from section_bytes
     units_step zero at here s k = alike_refuse Filled 11
     units_step (suc n) at here s k = ⊎_elim
         (λ (t : leb (length bytes) at ≡ true).
-        alike_are Filled (from_end n at s t) (at_end n i bases earlier here p.code at (drop at bytes) (omega (arith, length-drop at bytes, leb-true (length bytes) at t)))
+        alike_are Filled (from_end n r at s (leb-true (length bytes) at t)) (at_end n i bases earlier here p.code at (drop at bytes) (omega (arith, length-drop at bytes, leb-true (length bytes) at t)))
         (alike_pass Filled s here k))
         (λ (t : leb (length bytes) at ≡ false).
         let inside : at < length bytes = leb-false (length bytes) at t in
-        alike_are Filled (from_unit n at s t) refl
+        alike_are Filled (from_unit n r at s inside) refl
         (at_rest Filled (filed_unit r at s >>= λ f. filed_from n r f.next f.stored) n i bases earlier here p.code at (drop at bytes) (drop at bytes) refl (omega (arith, length-drop at bytes, inside))
         (alike_bind (After b i p version versions homes bases used (earlier ++ here) at) Filled (filed_unit r at s) (unit_at i bases earlier here p.code at (drop at bytes))
         (λ f. filed_from n r f.next f.stored) (λ u. units_from n i bases earlier (here ++ (u ∷ [])) p.code (at + length u.bytes) (drop (length u.bytes) (drop at bytes)))
@@ -90,7 +83,7 @@ module _ (b : List ℕ) (i : Input) (version : ℕ) (versions : i.encoding.versi
 
     pub section_step : (here : List Filed) (s : Stored) → Holds b version bases used (earlier ++ here) s
         → Alike Filled (filed_section r s) (units_from (suc (length bytes)) i bases earlier here p.code 0 bytes)
-    unfolding filed_section section_bytes
+    unfolding filed_section filed_rest section_bytes
     section_step here s k = units_step (suc (length bytes)) 0 here s k
 
   -- ---- the sections of an object

@@ -169,8 +169,12 @@ filed_from (suc n) r at s =
     then pass s
     else filed_unit r at s >>= λ f. filed_from n r f.next f.stored
 
+-- no more steps than bytes
+unfoldable pub filed_rest : Reading → ℕ → Stored → Check Stored
+filed_rest r at s = filed_from (suc (length (section_bytes r))) r at s
+
 unfoldable pub filed_section : Reading → Stored → Check Stored
-filed_section r s = filed_from (suc (length (section_bytes r))) r 0 s
+filed_section r s = filed_rest r 0 s
 
 -- ---- an object
 unfoldable pub unit_parts : List Part → List Part
