@@ -17,7 +17,8 @@ use Rattle.elf.specs.Writer.{amd64, machine_good, is_machine}
 use Rattle.archive.specs.Theorem.{AreBytes}
 use Rattle.archive.specs.RoundTrip.{ThereAndBack}
 use Rattle.archive.specs.Used.{bundle, whole_package}
-use Rattle.archive.specs.Applied.{first, first_package, first_file, small_file, small_bundle, second, together, both, bare, bare_package, bare_file, question, answer, OfEveryCall, OfFiles, OfRules, Applied}
+use Rattle.archive.specs.FilesUsed.{first, first_package, first_file}
+use Rattle.archive.specs.Applied.{small_file, small_bundle, second, together, both, bare, bare_package, bare_file, question, answer, OfEveryCall, OfFiles, OfRules, Applied}
 use Rattle.archive.proofs.Paper.{paper}
 use Rattle.archive.proofs.Sums.{looks_are_few}
 use Rattle.archive.proofs.RoundTrip.{round_trip}
@@ -30,6 +31,7 @@ use Rattle.archive.proofs.Bytes.{are_bytes}
 use Rattle.archive.proofs.AppliedTo as to
 use Rattle.archive.proofs.UsedOn.{computed}
 use Rattle.archive.proofs.Used.{used}
+use Rattle.archive.proofs.FilesUsed.{files_used}
 
 -- ---- each law
 first_bytes : AreBytes first
@@ -115,6 +117,7 @@ rules_law =
 pub applied : Applied
 applied = record {
   every_clause = used;
+  every_file_clause = files_used;
   every_call = every_call_law;
   files = files_law;
   rules = rules_law;

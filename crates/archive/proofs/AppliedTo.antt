@@ -56,7 +56,8 @@ use Rattle.archive.specs.Theorem
 use Rattle.archive.specs.Theorem.{is_index_version}
 use Rattle.archive.specs.Rules.{parts_named}
 use Rattle.archive.specs.Used.{bundle}
-use Rattle.archive.specs.Applied.{first, first_package, first_file, small_file, small_bundle, second, together, both, bare, bare_package, bare_file, question, answer}
+use Rattle.archive.specs.FilesUsed.{first, first_package, first_file}
+use Rattle.archive.specs.Applied.{small_file, small_bundle, second, together, both, bare, bare_package, bare_file, question, answer}
 
 -- ---- bytes
 pub first_small : all (λ b. ltb b 256) first ≡ true

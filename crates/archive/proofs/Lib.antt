@@ -33,5 +33,7 @@ pub mod Clauses
 pub mod Bytes
 pub mod UsedOn
 pub mod Used
+pub mod FilesUsedOn
+pub mod FilesUsed
 pub mod AppliedTo
 pub mod Applied

@@ -3,7 +3,7 @@ use Rattle.std.specs.Prelude.{◌≡◌, false, List, [], ◌∷◌, ◌++◌, �
 use Rattle.std.proofs.Math.Option.{none}
 use Rattle.numbers.specs.Refusals.{no_unit, file_short, bad_parts}
 use Rattle.numbers.specs.Tables.{compilation_table, type_table}
-use Rattle.octets.specs.Octets.{numbers_of, part, zeros}
+use Rattle.octets.specs.Octets.{numbers_of, zeros}
 use Rattle.octets.specs.Checked.{pass, refuse}
 use Rattle.bundle.specs.Written.{Section}
 use Rattle.index.specs.Index.{Contribution}
@@ -27,20 +27,7 @@ use Rattle.archive.specs.Paper.{lines_found}
 use Rattle.archive.specs.Refusing.{PackingCode, LookupCode}
 use Rattle.archive.specs.Rules.{LeastSlots, NoneOfThree, parts_named}
 use Rattle.archive.specs.Used.{bundle, whole_package, EveryClauseUsed}
-
--- an object of version 5: a unit of this identity, and a byte of abbrev
-abbrev pub object : ℕ → List ℕ → List ℕ
-object identity rest = 0x1008_0405 ∷ 0x2080_0014 ∷ 0x10 ∷ 0x805_0005 ∷ 0 ∷ identity ∷ 0 ∷ 0x2180_0001 ∷ 0 ∷ rest
-
--- a bundle of it, and its package
-abbrev pub first : List ℕ
-first = numbers_of false 4 (0xF000_0000 ∷ object 1 (0x3000_000B ∷ []))
-
-abbrev pub row : List ℕ → List ℕ
-row rest = 0x2600_0040 ∷ 5 ∷ 2 ∷ 1 ∷ 2 ∷ 0 ∷ 0 ∷ 1 ∷ 0 ∷ 0 ∷ 1 ∷ 1 ∷ 3 ∷ 0 ∷ 0 ∷ 0x14 ∷ 1 ∷ rest
-
-abbrev pub first_package : List ℕ
-first_package = numbers_of false 4 (0xF000_0000 ∷ object 1 (row (0x3000_001C ∷ [])))
+use Rattle.archive.specs.FilesUsed.{object, row, first, first_package, first_file, EveryFileClauseUsed}
 
 -- the package's object with another behind it, as a bundle; the two objects themselves; and the package of either
 abbrev pub second : List ℕ
@@ -67,12 +54,6 @@ abbrev_alone = record { code = 3; bytes = 0 ∷ [] }
 
 abbrev pub bare_file : List ℕ
 bare_file = file_bytes false amd64 (abbrev_alone ∷ [])
-
--- the file of `first_package`
-abbrev pub first_file : List ℕ
-first_file =
-    file_bytes false amd64
-    (record { code = 1; bytes = part first 12 20 } ∷ record { code = 3; bytes = 0 ∷ [] } ∷ record { code = 12; bytes = part first_package 44 64 } ∷ [])
 
 -- a file of 32 bits: a unit at byte 52, the names at 72, and at 89 the headers: the null one, info, the names
 abbrev pub small_file : List ℕ
@@ -127,6 +108,7 @@ pub record OfRules : Type 0 where
 
 pub record Applied : Type 0 where
   pub every_clause : EveryClauseUsed
+  pub every_file_clause : EveryFileClauseUsed
   pub every_call : OfEveryCall
   pub files : OfFiles
   pub rules : OfRules

@@ -18,3 +18,4 @@ pub mod Applied
 pub mod Verified
 pub mod Compared
 pub mod FromFiles
+pub mod FilesUsed
