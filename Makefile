@@ -22,7 +22,7 @@ PC_PREFIX ?= $(PREFIX)
 VERSION = $(shell sed -n 's/^version = "\(.*\)"$$/\1/p' host/product/Cargo.toml)
 DIST = barthovin-$(VERSION)-x86_64-linux
 
-.PHONY: help test library host pack-example real-files readers command install uninstall dist clean fmt oracle differential hostile string-index bench-ready bench bench-one
+.PHONY: help test library host wrong-hosts pack-example real-files readers command install uninstall dist clean fmt oracle differential hostile string-index bench-ready bench bench-one
 
 help:
 	@echo 'make pack-example   packs two .dwo files and the example of docs/FORMAT.md, verifies, lists and looks up in their packages'
@@ -35,6 +35,7 @@ help:
 	@echo 'make dist           writes them into an archive, with their sums: target/$(DIST).tar.gz'
 	@echo 'make test           the gate: rt ci (layout, every proof, every edit that must fail, every program), then the tests of the host'
 	@echo 'make host           the tests of the host alone'
+	@echo 'make wrong-hosts    tries hosts that are wrong by intention, as edits must fail: a named test has to refuse each'
 	@echo 'make differential   compares with thorin itself, where it is at hand, feeds a million damaged bundles, verifies 100,000 packages with bits turned, packs in two sittings and hostile bundles; fails where packing takes too long'
 	@echo 'make hostile        packs hostile bundles of 28 KB and says which keep 50 ms; fails where one does not that is not known to'
 	@echo 'make string-index   times the index of strings against a proved build that walks the kept strings; fails below five times'
@@ -89,6 +90,11 @@ host: library
 	{ (cd host && env -u BARTHOVIN_LIBRARY cargo test --release --offline) 2>&1; echo $$? > "$$out.status"; } | tee "$$out"; \
 	test "$$(cat "$$out.status")" = 0 || exit 1; \
 	awk '/^test result: ok/ { passed += $$4; failed += $$6 } END { print "tests of the host: " passed " passed, " failed + 0 " failed" }' "$$out"
+
+# What may be deleted is said by proved functions, but which files they are handed, and what is made of their answers, is the host's doing. Hosts that leave out a file,
+# exchange two or take a no for a yes are tried one by one.
+wrong-hosts: library
+	tools/wrong-hosts
 
 # Packs two files of gcc, verifies the package, lists it and looks a string up in it. Then the example of docs/FORMAT.md, with the words of its package.
 barthovin = host/target/release/barthovin

@@ -67,10 +67,10 @@ pub fn packed(bundle: &[u8]) -> Option<Vec<u8>> {
     (ffi::pack(bundle, &mut work, &mut output) == (0, length)).then_some(output)
 }
 
-/// The package that another maker's program writes of files, where it is at hand and ends well.
+/// The package that another maker's program writes of files, where it is at hand and ends well, within some seconds.
 pub fn by_program(program: &str, files: &[PathBuf], to: &Path) -> Option<Vec<u8>> {
-    let mut command = Command::new(program);
-    command.args(files).arg("-o").arg(to).stdout(Stdio::null()).stderr(Stdio::null());
+    let mut command = Command::new("timeout");
+    command.args(["20", program]).args(files).arg("-o").arg(to).stdout(Stdio::null()).stderr(Stdio::null());
     let ended = command.status().ok()?;
     ended.success().then(|| words(to)).flatten()
 }
