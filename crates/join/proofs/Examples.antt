@@ -3,12 +3,15 @@ use mathlib.Core.Path.{◌≡◌, refl}
 use mathlib.Core.List.{List, [], ◌∷◌, ◌++◌}
 use Prim.Native.Nat.{ℕ}
 use Rattle.octets.specs.Octets.{part, little, number, number_at, little_of, bytes_of, numbers_of, zeros, padded}
-use Rattle.octets.specs.Lists.{joined as concat, all}
-use Rattle.octets.specs.Checked.{pass, refuse, ◌>>=◌, require}
+use Rattle.octets.specs.Lists.{joined as concat, all, those}
+use Rattle.octets.specs.Checked.{pass, refuse, ◌>>=◌, require, renumbered}
 use Rattle.answers.specs.Answers.{refused, short, made, answered}
-use Rattle.bundle.specs.Bundle.{filled_up, object_step, section_step, end_step, step_of, step_at, followed, items_from, items, leading, objects_of, object_first, bundle_of}
+use Rattle.bundle.specs.Bundle.{filled_up, object_step, section_step, end_step, step_of, step_at, followed, items_from, items, leading, objects_of, object_first, bundle_of, length_good, parts_of, count, first_part, body}
+use Rattle.bundle.specs.Encoding.{encoding_of, encoding_good}
 use Rattle.bundle.specs.Written.{word_bytes, end_bytes}
 use Rattle.bundle.proofs.Examples.{words}
+use Rattle.lookup.specs.Lookup.{codes, package_index, object_judged, objects_judged, package_of}
+use Rattle.join.specs.Open.{words_of, made_package, judged, opened}
 use Rattle.join.specs.Laws.{joined_all, section_in, object_in, objects_read, objects_in, file_objects, all_objects}
 use Rattle.join.specs.Join.{elf_bundle, as_it_is, as_bundle, file_bundle, framed, contents, behind, joined_with, joined_behind, joined, joining, memory_after, starts_elf}
 
@@ -81,3 +84,20 @@ Together =
 pub together : Together
 unfolding elf_bundle part little number number_at little_of bytes_of numbers_of zeros concat all ◌>>=◌ require filled_up object_step section_step end_step step_of step_at followed items_from items leading objects_of object_first bundle_of word_bytes end_bytes as_it_is as_bundle file_bundle framed contents behind starts_elf joined_with joined_behind joined joined_all section_in object_in objects_read objects_in file_objects all_objects
 together = (refl, refl, refl)
+
+-- files opened as packages
+abbrev pub Opens : Type 0
+Opens =
+    -- of one object, or of none, in an output with or without room
+    (opened first 20 ≡ made first)
+    × (opened none 9 ≡ made none)
+    × (opened first 19 ≡ short 20)
+    -- no package: two objects, of which 18 is told first; no bundle; no bytes
+    × (opened both 32 ≡ refused 21)
+    × (opened both 31 ≡ short 32)
+    × (opened broken 20 ≡ refused 21)
+    × (opened [] 0 ≡ refused 21)
+
+pub opens : Opens
+unfolding elf_bundle part little number number_at little_of bytes_of numbers_of zeros concat all those ◌>>=◌ require renumbered filled_up object_step section_step end_step step_of step_at followed items_from items leading objects_of object_first bundle_of length_good parts_of count first_part body encoding_of encoding_good codes package_index object_judged objects_judged package_of starts_elf answered words_of made_package judged opened
+opens = (refl, refl, refl, refl, refl, refl, refl)
