@@ -1,15 +1,7 @@
 -- The strings of a part are the same whichever unit has the part.
-use mathlib.Core.Path.{◌≡◌, refl, sym, ap, ◌∙◌}
-use mathlib.Core.Bool.{true}
-use mathlib.Core.List.{List}
-use mathlib.Core.Logic.{◌⊎◌, ⊎_elim}
-use Prim.Native.Nat.{ℕ, ◌+◌, ◌*◌, ◌/◌, ◌<◌}
-use native.Mathlib.Omega.{arith}
-use lib.ListN.{length, get_or, set}
-use Rattle.std.specs.Prelude.{Option, Some, None, ◌==◌}
-use borrow.Author.Tests.{eqb-true}
+use Rattle.std.proofs.Common.{◌≡◌, refl, sym, ap, ◌∙◌, true, List, ◌⊎◌, ⊎_elim, ℕ, ◌+◌, ◌*◌, ◌/◌, ◌<◌, arith, length, get_or, set, eqb-true}
+use Rattle.std.specs.Prelude.{Option, Some, None, ◌==◌, Result, Ok, Err}
 use Rattle.octets.proofs.Checks.{true_false, and_left}
-use Rattle.octets.specs.Checked.{Check, pass, refuse}
 use Rattle.strings.specs.declared.table.Place.{Place}
 use Rattle.lookup.specs.Lookup.{Found, refused, absent, part, Place as Held, looked_up, string_place as place_named}
 use Rattle.lookup.specs.Answers.{package_in}
@@ -20,9 +12,9 @@ use Rattle.agreement.specs.Memory.{Memory, StringsSame}
 use Rattle.agreement.proofs.Memories.{found_known, kept}
 
 -- ---- the place of a string, by the part of str_offsets alone
-abbrev placed_by : Check Held → Option Place
-placed_by (pass h) = Some (record { start = h.start; size = h.size })
-placed_by (refuse n) = None
+abbrev placed_by : Result Held ℕ → Option Place
+placed_by (Ok h) = Some (record { start = h.start; size = h.size })
+placed_by (Err n) = None
 
 by_part : (p : List ℕ) (v table x s n l k : ℕ) → looked_up p v table x 6 ≡ part s n l
     → string_place p v table x k ≡ placed_by (place_named p (package_in p) v k (record { start = s; size = n }))
@@ -35,9 +27,9 @@ by_part p v table x s n l k e = from (place_named p (package_in p) v k (record {
     located : Located
     located = record { place = Some place; looks = l }
 
-    from : (r : Check Held) → r ≡ place_named p (package_in p) v k (record { start = s; size = n }) → string_place p v table x k ≡ placed_by r
-    from (pass h) g = sym (ap place_of (strung_placed p v table x k located (sym e) place refl h g))
-    from (refuse m) g = sym (ap place_of (strung_failed p v table x k located (sym e) place refl m g))
+    from : (r : Result Held ℕ) → r ≡ place_named p (package_in p) v k (record { start = s; size = n }) → string_place p v table x k ≡ placed_by r
+    from (Ok h) g = sym (ap place_of (strung_placed p v table x k located (sym e) place refl h g))
+    from (Err m) g = sym (ap place_of (strung_failed p v table x k located (sym e) place refl m g))
 
 alike : (p : List ℕ) (v table x other y s n l m k : ℕ) → looked_up p v table x 6 ≡ part s n l → looked_up p v other y 6 ≡ part s n m
     → string_place p v table x k ≡ string_place p v other y k

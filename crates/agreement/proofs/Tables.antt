@@ -1,12 +1,8 @@
 -- The index of a table: what it has, and that there is no other.
-use mathlib.Core.Path.{◌≡◌, refl, sym, ap, ◌∙◌, transport}
-use mathlib.Core.Bool.{Bool, true, false, beq, ◌&&◌}
-use mathlib.Core.List.{List}
-use mathlib.Core.Option.{Option, some, none}
-use Prim.Native.Nat.{ℕ}
-use native.Mathlib.Omega.{arith}
-use lib.ListN.{length}
-use Rattle.std.specs.Prelude.{Some, None}
+use Rattle.std.proofs.Common.{◌≡◌, refl, sym, ap, ◌∙◌, Bool, true, false, ◌&&◌, List, ℕ, arith, length}
+use mathlib.Core.Path.{transport}
+use mathlib.Core.Bool.{beq}
+use Rattle.std.specs.Prelude.{Option, Some, None}
 use Rattle.octets.specs.Options.{found}
 use Rattle.bundle.specs.Bundle.{body}
 use Rattle.index.specs.Index.{Index}
@@ -20,11 +16,11 @@ use Rattle.lookup.proofs.Known.{index_known}
 use Rattle.octets.proofs.Checks.{and_left, and_right}
 use Rattle.agreement.specs.Agreement.{IndexAgrees, TableAgrees, same_encoding}
 
-pub there : (o : Option Index) (i : Index) → Some i ≡ found o → o ≡ some i
-there (some b) i e = cc
-there none i e = absurd (let z : ◌≡◌ {A = ℕ} 0 1 = cc in omega arith)
+pub there : (o : Option Index) (i : Index) → Some i ≡ found o → o ≡ Some i
+there (Some b) i e = cc
+there None i e = absurd (let z : ◌≡◌ {A = ℕ} 0 1 = cc in omega arith)
 
-pub even : (p : List ℕ) (h : PackageHead) → Opened p h → (table : ℕ) (i : Index) → index_for (package_in p) table ≡ some i → length i.identities ≡ length i.rows
+pub even : (p : List ℕ) (h : PackageHead) → Opened p h → (table : ℕ) (i : Index) → index_for (package_in p) table ≡ Some i → length i.identities ≡ length i.rows
 even p h o table i e =
     let k = package_in p in
     (well_facts (record { big = k.encoding.big; bytes = body p k.parts (index_code table); is = index_known p k o.is table i e })).identities

@@ -1,7 +1,6 @@
 -- Whether one package answers as another does: p is asked for each unit that the indexes of q have, and answers with the same bytes, and with the same strings.
 use Rattle.std.specs.Prelude.{◌≡◌, Bool, true, false, ◌&&◌, Option, Some, None, List, ℕ, ◌+◌, ◌/◌, ◌≤◌, ◌<◌, ◌==◌, nat_le, if◌then◌else◌, length, slice_index}
 use Rattle.std.specs.Bool.{beq}
-use Rattle.std.proofs.Math.Option.{some}
 use Rattle.numbers.specs.Sections.{str_offsets_code, str_code}
 use Rattle.numbers.specs.Tables.{index5}
 use Rattle.octets.specs.Octets.{part as bytes_at}
@@ -74,7 +73,7 @@ abbrev pub IndexAgrees : List ℕ → List ℕ → ℕ → ℕ → Index → Typ
 IndexAgrees p q v table i = (k : ℕ) → k < length i.rows → (slice_index i.rows k ≡ 0 → ⊥) → UnitAgrees p q v table (slice_index i.identities k)
 
 abbrev pub TableAgrees : List ℕ → List ℕ → ℕ → ℕ → Type 0
-TableAgrees p q v table = (i : Index) → index_for (package_in q) table ≡ some i → IndexAgrees p q v table i
+TableAgrees p q v table = (i : Index) → index_for (package_in q) table ≡ Some i → IndexAgrees p q v table i
 
 -- byte order, version and widths
 abbrev pub same_encoding : ObjectEncoding → ObjectEncoding → Bool

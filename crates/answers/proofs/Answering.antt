@@ -1,25 +1,22 @@
 -- The three answers of a check for an output of o bytes, in numbers and in what the output holds.
-use mathlib.Core.Path.{◌≡◌, sym, ap, ◌∙◌}
-use mathlib.Core.List.{List}
-use Prim.Native.Nat.{ℕ, ◌-◌, ◌<◌, ◌≤◌}
-use lib.ListN.{length}
-use borrow.Author.Tests.{le-leb, lt-leb}
+use Rattle.std.proofs.Common.{◌≡◌, sym, ap, ◌∙◌, List, ℕ, ◌-◌, ◌<◌, ◌≤◌, length, le-leb}
+use borrow.Author.Tests.{lt-leb}
 use Rattle.octets.specs.Octets.{padded, zeros}
-use Rattle.octets.specs.Checked.{Check, pass, refuse}
+use Rattle.std.specs.Prelude.{Result, Ok, Err}
 use Rattle.numbers.specs.Refusals.{output_short}
 use Rattle.answers.specs.Answers.{Answer, short, made, answered, output_of, written_of}
 use Rattle.answers.specs.declared.Written.{Written}
 
-module _ (c : Check (List ℕ)) (o : ℕ) where
-  pub refused_written : (n : ℕ) → c ≡ refuse n → ◌≡◌ {A = Written} (record { code = n; length = 0 }) (written_of (answered c o))
+module _ (c : Result (List ℕ) ℕ) (o : ℕ) where
+  pub refused_written : (n : ℕ) → c ≡ Err n → ◌≡◌ {A = Written} (record { code = n; length = 0 }) (written_of (answered c o))
   unfolding written_of answered
   refused_written n e = rw e
 
-  pub refused_output : (n : ℕ) → c ≡ refuse n → (d : List ℕ) → d ≡ zeros o → d ≡ output_of (answered c o) o
+  pub refused_output : (n : ℕ) → c ≡ Err n → (d : List ℕ) → d ≡ zeros o → d ≡ output_of (answered c o) o
   unfolding output_of answered
   refused_output n e d z = rw e z
 
-  module _ (p : List ℕ) (e : c ≡ pass p) where
+  module _ (p : List ℕ) (e : c ≡ Ok p) where
     module _ (h : o < length p) where
       short_is : answered c o ≡ short (length p)
       unfolding answered

@@ -1,7 +1,6 @@
 -- The three kinds of answer of a call that writes into a lent output: a refusal's number, the length needed where the output is too short, and what is written.
-use Rattle.std.specs.Prelude.{true, false, List, ℕ, ◌-◌, length, nat_le, if◌then◌else◌}
+use Rattle.std.specs.Prelude.{true, false, List, ℕ, ◌-◌, length, nat_le, if◌then◌else◌, Result, Ok, Err}
 use Rattle.octets.specs.Octets.{padded, zeros}
-use Rattle.octets.specs.Checked.{Check, pass, refuse}
 use Rattle.numbers.specs.Refusals.{output_short}
 use Rattle.answers.specs.declared.Written.{Written}
 
@@ -12,9 +11,9 @@ pub data Answer : Type 0 where
   made : List ℕ → Answer
 
 -- for an output of o bytes
-unfoldable pub answered : Check (List ℕ) → ℕ → Answer
-answered (refuse n) o = refused n
-answered (pass p) o = if nat_le (length p) o then made p else short (length p)
+unfoldable pub answered : Result (List ℕ) ℕ → ℕ → Answer
+answered (Err n) o = refused n
+answered (Ok p) o = if nat_le (length p) o then made p else short (length p)
 
 -- an output of o bytes after the call: what is written and zeros, or zeros only
 unfoldable pub output_of : Answer → ℕ → List ℕ

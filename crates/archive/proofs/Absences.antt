@@ -1,15 +1,7 @@
 -- The package as the lookups read it, for what is asked; and what is not handed in is absent.
-use mathlib.Core.Path.{◌≡◌, refl, sym, ap, ◌∙◌, subst}
-use mathlib.Core.Logic.{◌⊎◌, inl, inr, ⊎_elim}
-use mathlib.Core.Bool.{true, false, ◌&&◌, ◌||◌}
-use mathlib.Core.List.{List, [], ◌∷◌}
-use mathlib.Core.Option.{Option, some, none}
-use Prim.Native.Nat.{ℕ, ◌-◌, ◌<◌, ◌≤◌}
-use lib.Dec.{eqb}
-use lib.ListN.{length, get_or}
-use borrow.Author.Tests.{eqb-true}
+use Rattle.std.proofs.Common.{◌≡◌, refl, sym, ap, ◌∙◌, subst, ◌⊎◌, inl, inr, ⊎_elim, true, false, ◌&&◌, ◌||◌, List, [], ◌∷◌, ℕ, ◌-◌, ◌<◌, ◌≤◌, eqb, length, get_or, eqb-true}
+use Rattle.std.specs.Prelude.{Option, Some, None, Result, Ok}
 use Rattle.octets.specs.Lists.{any, has, those}
-use Rattle.octets.specs.Checked.{Check, pass}
 use Rattle.octets.proofs.Checks.{true_false, pass_inj, and_both}
 use Rattle.octets.proofs.Numbers.{Bytes}
 use Rattle.bundle.specs.Bundle.{Object}
@@ -49,7 +41,7 @@ module _ (b p : List ℕ) (a : Accepted b p) (h : Bytes b) where
   unfolding filing_of filing_from first_word
   no_units q =
       let big = a.bundle.big in
-      let e : filing_from b big (first_word []) (λ c. 0) [] [] ≡ pass a.filing = ap (λ (l : List Object). filing_from b big (first_word l) (λ c. 0) [] l) (sym q) ∙ a.filed in
+      let e : filing_from b big (first_word []) (λ c. 0) [] [] ≡ Ok a.filing = ap (λ (l : List Object). filing_from b big (first_word l) (λ c. 0) [] l) (sym q) ∙ a.filed in
       ap (λ (f : Filing). f.units) (sym (pass_inj e))
 
   pub rows_have : (t x : ℕ) → has (identities_of (rows_in a t)) x ≡ any (is_under t x) (handed_in b)
@@ -57,7 +49,7 @@ module _ (b p : List ℕ) (a : Accepted b p) (h : Bytes b) where
       ap (λ (l : List ℕ). has l x) (rows_named (kept units) t) ∙ has_identity t x (kept units) ∙ any_kept t x units ∙ ap (any (is_under t x)) (sym (handed_in_law b p a))
 
   pub no_rows : (t x : ℕ) → rows_in a t ≡ [] → any (is_under t x) (handed_in b) ≡ true → ⊥
-  unfolding has any
+  unfolding has
   no_rows t x z e = true_false (rows_have t x ∙ e) (ap (λ (l : List Row). has (identities_of l) x) z)
 
   pub some_rows : (t x : ℕ) → any (is_under t x) (handed_in b) ≡ true → 0 < length (rows_in a t)
@@ -70,19 +62,19 @@ module _ (b p : List ℕ) (a : Accepted b p) (h : Bytes b) where
       (λ (z : t ≡ 1). subst (λ (n : ℕ). Table a n (index_for k n)) (sym z) one)
       (λ (z : t ≡ 2). subst (λ (n : ℕ). Table a n (index_for k n)) (sym z) two) c
 
-  no_table : (t : ℕ) → units ≡ [] → Table a t none
+  no_table : (t : ℕ) → units ≡ [] → Table a t None
   unfolding kept keep_all
   no_table t z = empty (ap (λ (us : List Filed). rows_of (kept us) t) z ∙ none_of t)
     where
       none_of : (t : ℕ) → rows_of [] t ≡ []
-      none_of t = unfold rows_of entries_from those in refl
+      none_of t = unfold rows_of entries_from in refl
 
   -- it opens: without objects it has no indexes, else the first object's encoding and the sections written
   pub record Opens : Type 0 where
     pub k : Package
-    pub read : package_of p ≡ pass k
+    pub read : package_of p ≡ Ok k
     pub tables : (t : ℕ) → (t ≡ 1) ⊎ (t ≡ 2) → Table a t (index_for k t)
-    pub objects : ((a.bundle.objects ≡ []) × (k.cu_index ≡ none) × (k.tu_index ≡ none))
+    pub objects : ((a.bundle.objects ≡ []) × (k.cu_index ≡ None) × (k.tu_index ≡ None))
         ⊎ ((o : Object) × (os : List Object) × (a.bundle.objects ≡ o ∷ os) × (k.encoding ≡ encoding_in b p a h) × (k.parts ≡ parts_from 8 (sections_of b p a)))
 
   pub opens : Opens
@@ -90,7 +82,7 @@ module _ (b p : List ℕ) (a : Accepted b p) (h : Bytes b) where
   opens = ⊎_elim
       (λ (z : a.bundle.objects ≡ []).
       let e = no_units z in
-      let k : Package = record { encoding = encoding_of a.bundle.big 0; parts = []; cu_index = none; tu_index = none } in
+      let k : Package = record { encoding = encoding_of a.bundle.big 0; parts = []; cu_index = None; tu_index = None } in
       record { k = k; read = nothing_read b p a z; tables = λ t c. table_for k t c (no_table 1 e) (no_table 2 e); objects = inl (z, refl, refl) })
       (λ (z : (o : Object) × (os : List Object) × (a.bundle.objects ≡ o ∷ os)).
       let one = table b p a h 1 (inl refl) in
@@ -107,7 +99,7 @@ module _ (b p : List ℕ) (a : Accepted b p) (h : Bytes b) where
   -- for what is asked
   pub record Reads (v t : ℕ) : Type 0 where
     pub k : Package
-    pub read : package_of p ≡ pass k
+    pub read : package_of p ≡ Ok k
     pub good : version_good k v ≡ true
     pub table_read : Table a t (index_for k t)
     pub objects : (units ≡ []) ⊎ ((o : Object) × (os : List Object) × (a.bundle.objects ≡ o ∷ os) × (k.encoding ≡ encoding_in b p a h) × (k.parts ≡ parts_from 8 (sections_of b p a)) × (v ≡ form_of (version_in a)))
@@ -137,11 +129,11 @@ module _ (b p : List ℕ) (a : Accepted b p) (h : Bytes b) where
       s.objects
 
   -- ---- absent
-  absent_in : (t x : ℕ) (o : Option Index) (answer : Index → ℕ → Check Place) → Table a t o → any (is_under t x) (handed_in b) ≡ false
+  absent_in : (t x : ℕ) (o : Option Index) (answer : Index → ℕ → Result Place ℕ) → Table a t o → any (is_under t x) (handed_in b) ≡ false
       → answered (in_table o x answer) ≡ absent (looks b t x)
   unfolding in_table answered looks_of written
-  absent_in t x none answer (empty z) e = ap absent (sym (looks_none b p a t x z))
-  absent_in t x (some j) answer (full n i) e =
+  absent_in t x None answer (empty z) e = ap absent (sym (looks_none b p a t x z))
+  absent_in t x (Some j) answer (full n i) e =
       let m = i.misses x (rows_have t x ∙ e) in
       ends_nowhere (written (version_in a) (rows_in a t) i.slots) x m.looks answer (probe_absent (written (version_in a) (rows_in a t) i.slots) x m)
       ∙ ap absent (sym (looks_some b p a t x n i ∙ ap looks_of m.is))
@@ -157,8 +149,8 @@ module _ (b p : List ℕ) (a : Accepted b p) (h : Bytes b) where
       → ((theorem.identities_of b t ≡ []) × (looks b t x ≡ 0))
       ⊎ ((1 ≤ looks b t x) × (get_or (slots_of_table b t).rows (slot_after x (length (slots_of_table b t).rows) (looks b t x - 1)) 0 ≡ 0))
   unfolding looks_of written slot_after probed slot_at
-  ends_in t x none (empty z) e = inl ((no_slots b p a t z).0, looks_none b p a t x z)
-  ends_in t x (some j) (full n i) e =
+  ends_in t x None (empty z) e = inl ((no_slots b p a t z).0, looks_none b p a t x z)
+  ends_in t x (Some j) (full n i) e =
       let m = i.misses x (rows_have t x ∙ e) in
       let l : looks b t x ≡ m.looks = looks_some b p a t x n i ∙ ap looks_of m.is in
       inr (rw l m.some_looks, rw (l, slots_are b p a t n i) m.ends)

@@ -1,14 +1,7 @@
 -- The laws applied: every premise by computing it.
-use mathlib.Core.Path.{◌≡◌, refl, sym, ap, ◌∙◌, subst}
-use mathlib.Core.Bool.{true, false}
-use mathlib.Core.Logic.{inl}
-use mathlib.Core.List.{List, [], ◌∷◌, ◌++◌}
-use mathlib.Core.Option.{none}
-use Prim.Native.Nat.{ℕ}
-use native.Mathlib.Omega.{arith}
+use Rattle.std.proofs.Common.{◌≡◌, refl, sym, ap, ◌∙◌, subst, true, false, inl, List, [], ◌∷◌, ◌++◌, ℕ, arith, length}
+use Rattle.std.specs.Prelude.{None, Ok}
 use native.Mathlib.Decide.{dec_lt}
-use lib.ListN.{length}
-use Rattle.octets.specs.Checked.{pass}
 use Rattle.sittings.specs.Sittings.{Sitting}
 use Rattle.answers.specs.Answers.{short, made as made_file}
 use Rattle.package.proofs.Accepted.{made_judged}
@@ -84,7 +77,7 @@ long = ap length file_is ∙ to.first_file_long
 back : elf_read first_file 112 ≡ made_file first_package
 back = subst (λ (f : List ℕ). elf_read f 112 ≡ made_file first_package) file_is (there.read 112 (omega (arith, to.asked.long)))
 
-reads : bundle_read first_file ≡ pass first_package
+reads : bundle_read first_file ≡ Ok first_package
 unfolding elf_read
 reads = (made_judged (bundle_read first_file) 112 first_package back).0
 
@@ -103,7 +96,7 @@ files_law = record {
 -- ---- of rules
 rules_law : OfRules
 rules_law =
-    let t = three_cases none none [] in
+    let t = three_cases None None [] in
     let n = t.passes.0 ([], to.asked.nothing_left) in
     record {
       eleven = slots_are_least 11 (omega arith);
@@ -111,7 +104,7 @@ rules_law =
       second_free = always_free_law (1 ∷ 0 ∷ []) 8 1 1 refl (omega arith) refl;
       no_part = n;
       passes = t.passes.1 n;
-      a_byte = (three_cases none none (0 ∷ [])).number;
+      a_byte = (three_cases None None (0 ∷ [])).number;
     }
 
 pub applied : Applied

@@ -1,11 +1,5 @@
 -- A list of numbers below 256, by a test that computes.
-use mathlib.Core.Path.{◌≡◌}
-use mathlib.Core.Bool.{true}
-use mathlib.Core.List.{List, [], ◌∷◌}
-use Prim.Native.Nat.{ℕ, zero, suc}
-use native.Mathlib.Omega.{arith}
-use lib.Dec.{ltb}
-use borrow.Author.Tests.{ltb-true}
+use Rattle.std.proofs.Common.{◌≡◌, true, List, [], ◌∷◌, ℕ, zero, suc, arith, ltb, ltb-true}
 use Rattle.octets.specs.Lists.{all}
 use Rattle.octets.proofs.Lists.{all_head, all_tail}
 use Rattle.archive.specs.Theorem.{AreBytes}

@@ -1,16 +1,7 @@
 -- What is filed for a first unit is what it contributes; and a unit that is not the first of its identity is for the type table.
-use mathlib.Core.Path.{◌≡◌, refl, sym, ap, ◌∙◌, subst}
-use mathlib.Core.Bool.{Bool, true, false, not}
-use mathlib.Core.Logic.{⊎_elim}
-use mathlib.Core.List.{List, [], ◌∷◌, ◌++◌, append_assoc, append-nil}
-use mathlib.Core.Option.{Option, some, none}
-use Prim.Native.Nat.{ℕ, zero, suc, ◌+◌, ◌-◌, ◌≤◌}
-use native.Mathlib.Omega.{arith}
-use lib.Dec.{eqb, leb}
-use lib.ListN.{length, get_or, drop, length-append}
-use borrow.Author.Tests.{eqb-true, ne_eqb, leb-true}
+use Rattle.std.proofs.Common.{◌≡◌, refl, sym, ap, ◌∙◌, subst, Bool, true, false, not, ⊎_elim, List, [], ◌∷◌, ◌++◌, append_assoc, append-nil, ℕ, zero, suc, ◌+◌, ◌-◌, ◌≤◌, arith, eqb, leb, length, get_or, drop, length-append, eqb-true, ne_eqb, leb-true}
+use Rattle.std.specs.Prelude.{Option, if◌then◌else◌, Some, None, Ok}
 use Rattle.octets.specs.Lists.{any, all, has}
-use Rattle.octets.specs.Checked.{pass}
 use Rattle.octets.proofs.Checks.{bind_pass, require_pass, pass_inj, pass_refuse, known, true_false, and_left, and_right}
 use Rattle.octets.proofs.Elements.{no_length, has_at}
 use Rattle.octets.proofs.Lists.{all_head, all_tail}
@@ -31,7 +22,6 @@ use Rattle.package.specs.Pack.{handed_in}
 use Rattle.package.proofs.Accepted.{Accepted, handed_in_law}
 use Rattle.archive.specs.Contributing.{IsShared, StandsAt, Contributes}
 use Rattle.archive.specs.Theorem.{WhatItContributes}
-use Rattle.std.specs.Prelude.{if◌then◌else◌}
 
 -- ---- codes
 -- its codes count from 3 on
@@ -65,12 +55,12 @@ needed_none n c e = ⊎_elim
     (known (has (needed_codes n) c))
 
 -- ---- cells
-cell_some : (o : Option Contribution) → is_some o ≡ true → (d : Contribution) × (o ≡ some d)
+cell_some : (o : Option Contribution) → is_some o ≡ true → (d : Contribution) × (o ≡ Some d)
 unfolding is_some
-cell_some (some d) e = (d, refl)
-cell_some none e = absurd (true_false e refl)
+cell_some (Some d) e = (d, refl)
+cell_some None e = absurd (true_false e refl)
 
-cell_holds : (f : Contribution → Bool) (o : Option Contribution) (d : Contribution) → o ≡ some d → cell_is f o ≡ true → f d ≡ true
+cell_holds : (f : Contribution → Bool) (o : Option Contribution) (d : Contribution) → o ≡ Some d → cell_is f o ≡ true → f d ≡ true
 unfolding cell_is
 cell_holds f o d e q = rw e at q
 
@@ -88,13 +78,13 @@ inside width n c d e = leb-true (d.offset + d.size) (n c) (and_left (leb (d.offs
 -- what the tests of a row say, when all are passed
 record Row (x : Index) (width : ℕ) (n : BySection ℕ) (identity home at size : ℕ) (g : BySection (Option Contribution)) : Type 0 where
   row : ℕ
-  ends : row_of x (probe x identity) ≡ pass row
-  names : cell_of x row home ≡ some (record { offset = at; size = size })
-  there : (c : ℕ) → has (needed_codes n) c ≡ true → (d : Contribution) × (cell_of x row c ≡ some d) × (g c ≡ some d) × (d.offset + d.size ≤ n c)
-  nothing : (c : ℕ) → has (needed_codes n) c ≡ false → g c ≡ none
+  ends : row_of x (probe x identity) ≡ Ok row
+  names : cell_of x row home ≡ Some (record { offset = at; size = size })
+  there : (c : ℕ) → has (needed_codes n) c ≡ true → (d : Contribution) × (cell_of x row c ≡ Some d) × (g c ≡ Some d) × (d.offset + d.size ≤ n c)
+  nothing : (c : ℕ) → has (needed_codes n) c ≡ false → g c ≡ None
 
 row_passed : (x : Index) (width : ℕ) (n : BySection ℕ) (identity home at size : ℕ) (g : BySection (Option Contribution))
-    → row_contributions x width n identity home at size ≡ pass g → Row x width n identity home at size g
+    → row_contributions x width n identity home at size ≡ Ok g → Row x width n identity home at size g
 unfolding row_contributions
 row_passed x width n identity home at size g q =
     let row = bind_pass (row_of x (probe x identity)) _ g q in
@@ -106,7 +96,7 @@ row_passed x width n identity home at size g q =
     record {
       row = row.0;
       ends = row.1;
-      names = home_cell.1 ∙ ap some (own_is at size home_cell.0 (cell_holds (own_place at size) (cell_of x row.0 home) home_cell.0 home_cell.1 own.0));
+      names = home_cell.1 ∙ ap Some (own_is at size home_cell.0 (cell_holds (own_place at size) (cell_of x row.0 home) home_cell.0 home_cell.1 own.0));
       there = λ c p.
           let d = cell_some (cell_of x row.0 c) (all_has (λ s. is_some (cell_of x row.0 s)) (needed_codes n) c (all_tail (λ s. is_some (cell_of x row.0 s)) home (needed_codes n) there.0) p) in
           let good = cell_holds (part_good width n c) (cell_of x row.0 c) d.0 d.1 (all_has (λ s. cell_is (part_good width n s) (cell_of x row.0 s)) (needed_codes n) c steps.0 p) in
@@ -114,34 +104,34 @@ row_passed x width n identity home at size g q =
       nothing = λ c p. sym (ap (λ (f : BySection (Option Contribution)). f c) is) ∙ other row.0 c p;
     }
   where
-    here : (row c : ℕ) → has (needed_codes n) c ≡ true → (if has (needed_codes n) c then cell_of x row c else none) ≡ cell_of x row c
+    here : (row c : ℕ) → has (needed_codes n) c ≡ true → (if has (needed_codes n) c then cell_of x row c else None) ≡ cell_of x row c
     here row c p = rw p refl
 
-    other : (row c : ℕ) → has (needed_codes n) c ≡ false → (if has (needed_codes n) c then cell_of x row c else none) ≡ none
+    other : (row c : ℕ) → has (needed_codes n) c ≡ false → (if has (needed_codes n) c then cell_of x row c else None) ≡ None
     other row c p = rw p refl
 
-whole_is : (n : BySection ℕ) (c : ℕ) → has (needed_codes n) c ≡ true → whole_contributions n c ≡ some (record { offset = 0; size = n c })
+whole_is : (n : BySection ℕ) (c : ℕ) → has (needed_codes n) c ≡ true → whole_contributions n c ≡ Some (record { offset = 0; size = n c })
 unfolding whole_contributions
 whole_is n c e = rw (whole_contributions, e)
 
-whole_not : (n : BySection ℕ) (c : ℕ) → has (needed_codes n) c ≡ false → whole_contributions n c ≡ none
+whole_not : (n : BySection ℕ) (c : ℕ) → has (needed_codes n) c ≡ false → whole_contributions n c ≡ None
 unfolding whole_contributions
 whole_not n c e = rw (whole_contributions, e)
 
 -- ---- one unit that was taken
-other_some : {A : Type 0} {a : A} {P : Type 0} → none ≡ some a → P
+other_some : {A : Type 0} {a : A} {P : Type 0} → None ≡ Some a → P
 other_some e = let z : ◌≡◌ {A = ℕ} 0 1 = cc in absurd (omega arith)
 
-module _ (u : Filed) (at : ℕ) (stands : StandsAt u at) (reads : ReadAt u at) (q : contributions_of u.input u.home at (reading_of u) ≡ pass u.contributions) where
+module _ (u : Filed) (at : ℕ) (stands : StandsAt u at) (reads : ReadAt u at) (q : contributions_of u.input u.home at (reading_of u) ≡ Ok u.contributions) where
   filled : (c : ℕ) → (u.input.bytes c ≡ [] → ⊥) → lengths u.input c ≡ 0 → ⊥
   unfolding lengths
   filled c e z = e (no_length (u.input.bytes c) z)
 
-  by_index : (x : Index) → index_for u.input u.table ≡ some x → row_contributions x u.input.encoding.width (lengths u.input) u.identity u.home at (length u.bytes) ≡ pass u.contributions
+  by_index : (x : Index) → index_for u.input u.table ≡ Some x → row_contributions x u.input.encoding.width (lengths u.input) u.identity u.home at (length u.bytes) ≡ Ok u.contributions
   unfolding contributions_of
   by_index x e = rw (contributions_of, e) at q
 
-  by_whole : index_for u.input u.table ≡ none → whole_contributions (lengths u.input) ≡ u.contributions
+  by_whole : index_for u.input u.table ≡ None → whole_contributions (lengths u.input) ≡ u.contributions
   unfolding contributions_of
   by_whole e = pass_inj (require_pass (not (is_package u.input)) 15 _ u.contributions (rw (contributions_of, e) at q)).1
 
@@ -167,9 +157,9 @@ module _ (u : Filed) (at : ℕ) (stands : StandsAt u at) (reads : ReadAt u at) (
     nothing = λ c s e. from (index_for u.input u.table) refl c (nothing_there c e);
   }
     where
-      from : (o : Option Index) → index_for u.input u.table ≡ o → (c : ℕ) → has (needed_codes (lengths u.input)) c ≡ false → u.contributions c ≡ none
-      from (some x) e c n = (row_passed x u.input.encoding.width (lengths u.input) u.identity u.home at (length u.bytes) u.contributions (by_index x e)).nothing c n
-      from none e c n = ap (λ (g : BySection (Option Contribution)). g c) (sym (by_whole e)) ∙ whole_not (lengths u.input) c n
+      from : (o : Option Index) → index_for u.input u.table ≡ o → (c : ℕ) → has (needed_codes (lengths u.input)) c ≡ false → u.contributions c ≡ None
+      from (Some x) e c n = (row_passed x u.input.encoding.width (lengths u.input) u.identity u.home at (length u.bytes) u.contributions (by_index x e)).nothing c n
+      from None e c n = ap (λ (g : BySection (Option Contribution)). g c) (sym (by_whole e)) ∙ whole_not (lengths u.input) c n
 
 -- ---- all units, each behind those before it
 -- a unit behind ks: it contributes, if none of them has its identity; if one has, it is no compilation
@@ -197,13 +187,13 @@ record New (earlier here us : List Filed) : Type 0 where
   are : us ≡ here ++ new
   each : Each (earlier ++ here) new
 
-module _ (i : Input) (bases : BySection ℕ) (earlier : List Filed) (good : (x : Index) → i.cu_index ≡ some x → IndexRead x) where
+module _ (i : Input) (bases : BySection ℕ) (earlier : List Filed) (good : (x : Index) → i.cu_index ≡ Some x → IndexRead x) where
   -- a unit whose identity was taken before is no compilation
   taken_no_compilation : (here : List Filed) (home at : ℕ) (s : List ℕ) (u : Filed)
       → Taken i bases earlier here home at s u → any (is_under u.table u.identity) (earlier ++ here) ≡ true → u.table ≡ 1 → ⊥
   unfolding skipped
   taken_no_compilation here home at s u t f one =
-      let filed : skipped u.table ≡ pass u.contributions = rw f at t.contributed in
+      let filed : skipped u.table ≡ Ok u.contributions = rw f at t.contributed in
       pass_refuse u.contributions 14 (sym filed ∙ ap skipped one)
 
   -- a unit at the front of what is left of a section
@@ -224,14 +214,14 @@ module _ (i : Input) (bases : BySection ℕ) (earlier : List Filed) (good : (x :
         bytes = bytes ∙ ap (λ (l : List ℕ). front ++ l) t.rest;
         counted = refl;
       } in
-      let own : contributions_of i section.code at (reading_of u) ≡ pass u.contributions = rw f at t.contributed in
+      let own : contributions_of i section.code at (reading_of u) ≡ Ok u.contributions = rw f at t.contributed in
       unit_contributes u at stands reads
-      (subst (λ (j : Input). contributions_of j u.home at (reading_of u) ≡ pass u.contributions) (sym t.object)
-      (subst (λ (h : ℕ). contributions_of i h at (reading_of u) ≡ pass u.contributions) (sym t.section) own))
+      (subst (λ (j : Input). contributions_of j u.home at (reading_of u) ≡ Ok u.contributions) (sym t.object)
+      (subst (λ (h : ℕ). contributions_of i h at (reading_of u) ≡ Ok u.contributions) (sym t.section) own))
 
   units_each : (section : Section) (before behind : List Section) → i.units ≡ before ++ (section ∷ behind)
       → (k : ℕ) (here : List Filed) (front s : List ℕ) (us : List Filed) → section.bytes ≡ front ++ s
-      → units_from k i bases earlier here section.code (length front) s ≡ pass us → New earlier here us
+      → units_from k i bases earlier here section.code (length front) s ≡ Ok us → New earlier here us
   unfolding units_from
   units_each section before behind listed zero here front s us w q = absurd (pass_refuse us 11 (sym q))
   units_each section before behind listed (suc k) here front [] us w q = record { new = []; are = sym (pass_inj q) ∙ sym (append-nil here); each = tt }
@@ -250,7 +240,7 @@ module _ (i : Input) (bases : BySection ℕ) (earlier : List Filed) (good : (x :
         each = (record { first = taken_contributes here section before behind front (b ∷ s) u listed w t; again = taken_no_compilation here section.code (length front) (b ∷ s) u t }, subst (λ (l : List Filed). Each l m.new) (sym (append_assoc earlier here (u ∷ []))) m.each);
       }
 
-  sections_each : (before ss : List Section) → i.units ≡ before ++ ss → (here us : List Filed) → units_in i bases earlier here ss ≡ pass us → New earlier here us
+  sections_each : (before ss : List Section) → i.units ≡ before ++ ss → (here us : List Filed) → units_in i bases earlier here ss ≡ Ok us → New earlier here us
   unfolding units_in
   sections_each before [] listed here us q = record { new = []; are = sym (pass_inj q) ∙ sym (append-nil here); each = tt }
   sections_each before (s ∷ ss) listed here us q =
@@ -265,7 +255,7 @@ module _ (i : Input) (bases : BySection ℕ) (earlier : List Filed) (good : (x :
       }
 
 objects_each : (b : List ℕ) (big : Bool) (first : ℕ) (bases : BySection ℕ) (earlier : List Filed) (os : List Object) (f : Filing)
-    → filing_from b big first bases earlier os ≡ pass f → Each earlier f.units
+    → filing_from b big first bases earlier os ≡ Ok f → Each earlier f.units
 unfolding filing_from
 objects_each b big first bases earlier [] f q = subst (λ (g : Filing). Each earlier g.units) (pass_inj q) tt
 objects_each b big first bases earlier (o ∷ os) f q =
@@ -274,7 +264,7 @@ objects_each b big first bases earlier (o ∷ os) f q =
     let here = bind_pass (units_in i.0 bases earlier [] i.0.units) _ f i.2 in
     let rest = bind_pass (filing_from b big first (grown bases i.0) (earlier ++ here.0) os) _ f here.2 in
     let units : f.units ≡ here.0 ++ rest.0.units = ap (λ (g : Filing). g.units) (sym (pass_inj rest.2)) in
-    let good : (x : Index) → i.0.cu_index ≡ some x → IndexRead x = index_read _ o.parts (body b o.parts) 12 i.0.cu_index (input_cu b big first o i.0 p) in
+    let good : (x : Index) → i.0.cu_index ≡ Some x → IndexRead x = index_read _ o.parts (body b o.parts) 12 i.0.cu_index (input_cu b big first o i.0 p) in
     let m = sections_each i.0 bases earlier good [] i.0.units refl [] here.0 here.1 in
     let n = objects_each b big first (grown bases i.0) (earlier ++ here.0) os rest.0 rest.1 in
     subst (Each earlier) (sym units)

@@ -1,15 +1,8 @@
 -- The looks of a lookup in the package of an accepted bundle: every slot that it looks at is used, but for the last of one that finds nothing.
-use mathlib.Core.Path.{◌≡◌, refl, sym, ap, ◌∙◌, subst}
-use mathlib.Core.Logic.{◌⊎◌, inl, inr, ⊎_elim}
-use mathlib.Core.Bool.{Bool, true, false}
-use mathlib.Core.List.{List}
-use mathlib.Core.Option.{Option, some, none}
-use Prim.Native.Nat.{ℕ, ◌+◌, ◌<◌, ◌≤◌}
-use native.Mathlib.Omega.{arith}
-use lib.Dec.{eqb}
-use lib.ListN.{length, get_or, length-map}
+use Rattle.std.proofs.Common.{◌≡◌, refl, sym, ap, ◌∙◌, subst, ◌⊎◌, inl, inr, ⊎_elim, Bool, true, false, List, ℕ, ◌+◌, ◌<◌, ◌≤◌, arith, eqb, length, get_or}
+use Rattle.std.specs.Prelude.{Option, Some, None, Ok}
+use lib.ListN.{length-map}
 use Rattle.octets.specs.Lists.{has}
-use Rattle.octets.specs.Checked.{pass}
 use Rattle.octets.proofs.Checks.{pass_inj, known}
 use Rattle.octets.proofs.Elements.{at_has}
 use Rattle.octets.proofs.Numbers.{Bytes}
@@ -54,20 +47,20 @@ module _ (b p : List ℕ) (a : Accepted b p) (h : Bytes b) where
       subst (Within (length (rows_in a t))) (sym (probe_absent (written (version_in a) (rows_in a t) i.slots) x f)) m)
       (known (has (identities_of (rows_in a t)) x))
 
-  table_within : (t : ℕ) (o : Option Index) → Table a t o → (i : Index) → o ≡ some i → (x : ℕ) → Within (units_in (some i)) (probe i x)
+  table_within : (t : ℕ) (o : Option Index) → Table a t o → (i : Index) → o ≡ Some i → (x : ℕ) → Within (units_in (Some i)) (probe i x)
   unfolding units_in written
-  table_within t none (empty z) i e x = absurd (let q : ◌≡◌ {A = ℕ} 0 1 = cc in omega arith)
-  table_within t (some j) (full n r) i e x =
+  table_within t None (empty z) i e x = absurd (let q : ◌≡◌ {A = ℕ} 0 1 = cc in omega arith)
+  table_within t (Some j) (full n r) i e x =
       let same : written (version_in a) (rows_in a t) r.slots ≡ i = cc in
       subst (λ (y : Index). Within y.units (probe y x)) same (search_within t r x)
 
   table_counted : (t : ℕ) (o : Option Index) → Table a t o → units_in o ≡ length (rows_in a t)
   unfolding units_in written
-  table_counted t none (empty z) = sym (ap length z)
-  table_counted t (some j) (full n r) = refl
+  table_counted t None (empty z) = sym (ap length z)
+  table_counted t (Some j) (full n r) = refl
 
   -- ---- the package, as it is read
-  module _ (k : Package) (e : package_of p ≡ pass k) where
+  module _ (k : Package) (e : package_of p ≡ Ok k) where
     table_of : (t : ℕ) → (t ≡ 1) ⊎ (t ≡ 2) → Table a t (index_for k t)
     table_of t c = let r = opens b p a h in subst (λ (z : Package). Table a t (index_for z t)) (pass_inj (sym r.read ∙ e)) (r.tables t c)
 
@@ -76,13 +69,13 @@ module _ (b p : List ℕ) (a : Accepted b p) (h : Bytes b) where
     units_are table = rw (units_of, e)
 
     -- whatever number a table has, its index is one of the two
-    index_within : (table : ℕ) (i : Index) → index_for k table ≡ some i → (x : ℕ) → Within (units_of p table) (probe i x)
+    index_within : (table : ℕ) (i : Index) → index_for k table ≡ Some i → (x : ℕ) → Within (units_of p table) (probe i x)
     unfolding index_for
     index_within table i f x =
         subst (λ (n : ℕ). Within n (probe i x)) (sym (units_are table ∙ ap units_in f))
         (go (eqb table 1) refl)
       where
-        go : (q : Bool) → eqb table 1 ≡ q → Within (units_in (some i)) (probe i x)
+        go : (q : Bool) → eqb table 1 ≡ q → Within (units_in (Some i)) (probe i x)
         go true g = table_within 1 k.cu_index (table_of 1 (inl refl)) i (rw (index_for, g) at f) x
         go false g = table_within 2 k.tu_index (table_of 2 (inr refl)) i (rw (index_for, g) at f) x
 
@@ -100,7 +93,7 @@ module _ (b p : List ℕ) (a : Accepted b p) (h : Bytes b) where
   missed_few : {table x n : ℕ} → Missed p table x n → n ≤ units_of p table + 1
   unfolding Within
   missed_few {table} {x} {n} m = ⊎_elim
-      (λ (z : (index_for m.held table ≡ none) × (n ≡ 0)). omega (arith, z.1))
+      (λ (z : (index_for m.held table ≡ None) × (n ≡ 0)). omega (arith, z.1))
       (λ z. subst (Within (units_of p table)) z.2 (index_within m.held m.opened table z.0 z.1 x))
       m.either
 

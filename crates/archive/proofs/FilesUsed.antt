@@ -1,14 +1,7 @@
 -- The claim on files, used.
-use mathlib.Core.Path.{◌≡◌, refl, sym, ap, ◌∙◌, subst}
-use mathlib.Core.Logic.{◌⊎◌, inl, inr}
-use mathlib.Core.Bool.{true, false}
-use mathlib.Core.List.{List, [], ◌∷◌}
-use Prim.Native.Nat.{ℕ}
-use native.Mathlib.Omega.{arith}
-use lib.Dec.{eqb}
-use lib.ListN.{length, get_or}
+use Rattle.std.proofs.Common.{◌≡◌, refl, sym, ap, ◌∙◌, subst, ◌⊎◌, inl, inr, true, false, List, [], ◌∷◌, ℕ, arith, eqb, length, get_or}
 use Rattle.octets.specs.Octets.{part as bytes_at}
-use Rattle.octets.specs.Checked.{pass}
+use Rattle.std.specs.Prelude.{Ok}
 use Rattle.octets.proofs.Checks.{pass_inj, then_pass}
 use Rattle.bundle.specs.Encoding.{encoding_of}
 use Rattle.package.specs.Filing.{Filed}
@@ -30,15 +23,15 @@ use Rattle.archive.proofs.Verdicts.{verdict_yes}
 use Rattle.archive.proofs.FilesUsedOn.{indexed, stringed, holding, computed_files, computed}
 
 -- ---- the premises
-elf_read : (f b : List ℕ) → starts_elf f ≡ true → eqb (get_or f 4 0) 1 ≡ false → bundle_read f ≡ pass b → file_bundle f ≡ pass b
+elf_read : (f b : List ℕ) → starts_elf f ≡ true → eqb (get_or f 4 0) 1 ≡ false → bundle_read f ≡ Ok b → file_bundle f ≡ Ok b
 unfolding file_bundle elf_bundle
 elf_read f b s c r = rw (file_bundle, s, elf_bundle, c) r
 
-one : joined [] first_file ≡ pass first_package
+one : joined [] first_file ≡ Ok first_package
 unfolding joined
 one = elf_read first_file first_package computed_files.is_elf computed_files.of_64 computed_files.read
 
-all_of_them : joined_all [] files ≡ pass all_joined
+all_of_them : joined_all [] files ≡ Ok all_joined
 unfolding joined_all
 all_of_them = then_pass (joined [] first_file) _ first_package one ∙ then_pass (joined first_package other) _ all_joined computed_files.joins
 

@@ -1,14 +1,8 @@
 -- What is handed in is found: the first unit's parts and strings.
-use mathlib.Core.Path.{◌≡◌, refl, sym, ap, ◌∙◌, subst}
-use mathlib.Core.Logic.{⊎_elim}
-use mathlib.Core.Bool.{true}
-use mathlib.Core.List.{List, [], ◌∷◌, ◌++◌}
-use mathlib.Core.Option.{Option, some, none}
-use Prim.Native.Nat.{ℕ, ◌+◌, ◌<◌, ◌≤◌}
-use native.Mathlib.Omega.{arith}
-use lib.ListN.{length, get_or}
+use Rattle.std.proofs.Common.{◌≡◌, refl, sym, ap, ◌∙◌, subst, ⊎_elim, true, List, [], ◌∷◌, ◌++◌, ℕ, ◌+◌, ◌<◌, ◌≤◌, arith, length, get_or}
+use Rattle.std.specs.Prelude.{Option, Some, None, Result, Ok}
 use Rattle.octets.specs.Lists.{any}
-use Rattle.octets.specs.Checked.{Check, pass, ◌>>=◌}
+use Rattle.octets.specs.Checked.{◌>>=◌}
 use Rattle.octets.proofs.Checks.{true_false}
 use Rattle.octets.proofs.Numbers.{Bytes}
 use Rattle.bundle.specs.Bundle.{Part, Object}
@@ -50,7 +44,7 @@ module _ (b p : List ℕ) (a : Accepted b p) (h : Bytes b) where
   -- with objects, the index of its table was written
   pub record Stands (v t x : ℕ) (u : Filed) : Type 0 where
     pub k : Package
-    pub read : package_of p ≡ pass k
+    pub read : package_of p ≡ Ok k
     pub good : version_good k v ≡ true
     pub o : Object
     pub os : List Object
@@ -59,7 +53,7 @@ module _ (b p : List ℕ) (a : Accepted b p) (h : Bytes b) where
     pub parts : k.parts ≡ parts_from 8 (sections_of b p a)
     pub form : v ≡ form_of (version_in a)
     pub i : Indexed a.bundle.big (version_in a) (rows_in a t) (index_of_table a t)
-    pub index : index_for k t ≡ some (written (version_in a) (rows_in a t) i.slots)
+    pub index : index_for k t ≡ Some (written (version_in a) (rows_in a t) i.slots)
     pub xs : List Filed
     pub ys : List Filed
     pub stands : kept units ≡ xs ++ (u ∷ ys)
@@ -68,12 +62,12 @@ module _ (b p : List ℕ) (a : Accepted b p) (h : Bytes b) where
     pub looked : looks b t x ≡ hit.looks
 
   full_index : (t : ℕ) (o : Option Index) → Table a t o → 0 < length (rows_in a t)
-      → (i : Indexed a.bundle.big (version_in a) (rows_in a t) (index_of_table a t)) × (o ≡ some (written (version_in a) (rows_in a t) i.slots))
-  full_index t none (empty z) n = absurd (omega (arith, ap length z))
-  full_index t (some j) (full n i) m = (i, refl)
+      → (i : Indexed a.bundle.big (version_in a) (rows_in a t) (index_of_table a t)) × (o ≡ Some (written (version_in a) (rows_in a t) i.slots))
+  full_index t None (empty z) n = absurd (omega (arith, ap length z))
+  full_index t (Some j) (full n i) m = (i, refl)
 
   stands_of : (v t x : ℕ) (u : Filed) → Asked b v t → IsFirst b t x u → Stands v t x u
-  unfolding written looks_of any
+  unfolding written looks_of
   stands_of v t x u q f =
       let r = reads b p a h v t q in
       let n = some_rows b p a h t x (handed_of t x u f) in
@@ -127,7 +121,7 @@ module _ (b p : List ℕ) (a : Accepted b p) (h : Bytes b) where
     unfolding written
     found_row = s.hit.row_there
 
-    ends_at : (answer : Index → ℕ → Check Place) (bytes : List ℕ) → PlaceOf p (answer index row) bytes
+    ends_at : (answer : Index → ℕ → Result Place ℕ) (bytes : List ℕ) → PlaceOf p (answer index row) bytes
         → Holds p (answered (in_table (index_for s.k t) x answer)) (looks b t x) bytes
     ends_at answer bytes r = (
       r.start,
@@ -148,7 +142,7 @@ module _ (b p : List ℕ) (a : Accepted b p) (h : Bytes b) where
         (ends_at (λ i n. part_place s.k i n code) r.bytes (subst (λ (l : List Part). PlaceOf p (cell_place l code (cell_of index row code)) r.bytes) (sym s.parts) r.place))
 
     pub the_string : (n : ℕ) → n < length (entries_of_unit u)
-        → (string : List ℕ) × (string_at 9 (u.input.bytes 11) (get_or (entries_of_unit u) n 0) ≡ pass string) × Holds p (string_found p v t x n) (looks b t x) string
+        → (string : List ℕ) × (string_at 9 (u.input.bytes 11) (get_or (entries_of_unit u) n 0) ≡ Ok string) × Holds p (string_found p v t x n) (looks b t x) string
         × (is_in (string_table a.filing.inputs) string ≡ true)
     the_string n m =
         let r = its_string b p a h s.o s.os s.objects t s.i s.xs u s.ys s.stands s.own s.k s.encoding s.parts v s.form n m in (

@@ -1,10 +1,5 @@
 -- The claim from files to the answer: the units of the joined bundle are those of its files, one file's behind the other's, and the rest is said of the bundle.
-use mathlib.Core.Path.{◌≡◌, refl, sym, ap, ◌∙◌, subst}
-use mathlib.Core.Logic.{◌⊎◌, inl, inr, ⊎_elim}
-use mathlib.Core.Bool.{Bool, true, false}
-use mathlib.Core.List.{List, [], ◌∷◌, ◌++◌, map, append_assoc}
-use Prim.Native.Nat.{ℕ}
-use native.Mathlib.Omega.{arith}
+use Rattle.std.proofs.Common.{◌≡◌, refl, sym, ap, ◌∙◌, subst, ◌⊎◌, inl, inr, ⊎_elim, Bool, true, false, List, [], ◌∷◌, ◌++◌, map, append_assoc, ℕ, arith}
 use Rattle.octets.specs.Lists.{any, those}
 use Rattle.octets.proofs.Checks.{known, pass_inj}
 use Rattle.bundle.specs.Bundle.{Object, Bundle, bundle_of}

@@ -1,20 +1,10 @@
 -- The header of a unit's part of str_offsets is in the package as it was handed in: in version 5 the part is one piece, and a piece keeps its header.
-use mathlib.Core.Path.{◌≡◌, refl, sym, ap, ap₂, ◌∙◌}
-use mathlib.Core.Logic.{◌⊎◌, ⊎_elim}
-use mathlib.Core.Bool.{true, false}
-use mathlib.Core.List.{List, [], ◌∷◌}
-use mathlib.Core.Option.{some}
-use Prim.Native.Nat.{ℕ, zero, suc, ◌+◌, ◌≤◌}
-use native.Mathlib.Nat.{mul-zero}
-use native.Mathlib.Omega.{arith}
+use Rattle.std.proofs.Common.{◌≡◌, refl, sym, ap, ap₂, ◌∙◌, ◌⊎◌, ⊎_elim, true, false, List, [], ◌∷◌, ℕ, zero, suc, ◌+◌, ◌≤◌, mul-zero, arith, eqb, length, take, length-take-le, take_at}
+use Rattle.std.specs.Prelude.{Some, Ok}
 use native.Mathlib.Decide.{ℕ_discrete}
-use lib.Dec.{eqb}
-use lib.ListN.{length, take}
-use lib.Seq.{length-take-le, take_at}
 use borrow.Author.Tests.{eqb-false}
 use Rattle.octets.specs.Octets.{part as bytes_at}
 use Rattle.octets.specs.Lists.{joined}
-use Rattle.octets.specs.Checked.{pass}
 use Rattle.octets.proofs.Checks.{known}
 use Rattle.octets.proofs.Parts.{part_front, part_none, part_part, part_whole}
 use Rattle.bundle.specs.Bundle.{Object}
@@ -74,9 +64,9 @@ remapped_header e table used s h = take_at (take (header_size e) s) _ (header_si
 
 -- ---- a unit whose part is a piece
 abbrev pub Pieced : Filed → Type 0
-Pieced u = is_five u.input.encoding ≡ true → (k : Contribution) → u.contributions 6 ≡ some k → 1 ≤ k.size → IsPiece 0 u.input.pieces k
+Pieced u = is_five u.input.encoding ≡ true → (k : Contribution) → u.contributions 6 ≡ Some k → 1 ≤ k.size → IsPiece 0 u.input.pieces k
 
-module _ (e : Encoding) (table : List (List ℕ)) (u : Filed) (g : Good e u) (pieced : Pieced u) (k : Contribution) (q : u.contributions 6 ≡ some k) where
+module _ (e : Encoding) (table : List (List ℕ)) (u : Filed) (g : Good e u) (pieced : Pieced u) (k : Contribution) (q : u.contributions 6 ≡ Some k) where
   abbrev handed : List ℕ
   handed = bytes_at (u.input.bytes 6) k.offset k.size
 
@@ -129,7 +119,7 @@ module _ (b p : List ℕ) (a : Accepted b p) where
   all_pieced = filed_each b a.bundle.big (first_word a.bundle.objects) one (λ c. 0) [] a.bundle.objects a.filing a.filed
     where
       one : (o : Object) (i : Input) (bases : ℕ → ℕ) (earlier : List Filed) (u : Filed)
-          → input_of b a.bundle.big (first_word a.bundle.objects) o ≡ pass i → FiledIn i bases earlier u → Pieced u
+          → input_of b a.bundle.big (first_word a.bundle.objects) o ≡ Ok i → FiledIn i bases earlier u → Pieced u
       one o i bases earlier u q w five =
           let t = unit_taken i bases earlier w.0 w.1 w.2 w.3 u w.4 in
           own_piece b a.bundle.big (first_word a.bundle.objects) o i q (ap (λ (j : Input). is_five j.encoding) (sym t.object) ∙ five) bases earlier u w

@@ -1,12 +1,5 @@
 -- A bundle with a unit in info has a package with one: its info starts with a unit.
-use mathlib.Core.Path.{◌≡◌, refl, sym, ap, ◌∙◌, subst}
-use mathlib.Core.Logic.{⊎_elim}
-use mathlib.Core.Bool.{true, false}
-use mathlib.Core.Logic.{inl}
-use mathlib.Core.List.{List, [], ◌∷◌, ◌++◌}
-use Prim.Native.Nat.{ℕ}
-use native.Mathlib.Omega.{arith}
-use borrow.Author.Tests.{eqb-true, eq-eqb}
+use Rattle.std.proofs.Common.{◌≡◌, refl, sym, ap, ◌∙◌, subst, ⊎_elim, true, false, inl, List, [], ◌∷◌, ◌++◌, ℕ, arith, eqb-true, eq-eqb}
 use Rattle.numbers.specs.Sections.{info_code}
 use Rattle.octets.specs.Lists.{any}
 use Rattle.octets.proofs.Checks.{true_false, known, or_right}
@@ -42,7 +35,6 @@ pub record StartsInfo (e : Encoding) (us : List Filed) : Type 0 where
   pub is : unit_bytes us info_code ≡ unit.bytes ++ rest
 
 pub starts_info : (e : Encoding) (us : List Filed) → Every (Good e) us → any stands_in_info us ≡ true → StartsInfo e us
-unfolding any
 starts_info e [] g t = absurd (true_false t refl)
 starts_info e (u ∷ us) g t = ⊎_elim
     (λ (z : stands_in_info u ≡ true). record { unit = u; good = each_head g; home = stands u z; rest = unit_bytes us info_code; is = unit_here u us info_code (stands u z) })
@@ -59,7 +51,6 @@ record SomeInInfo (e : Encoding) (us : List Filed) : Type 0 where
   under : any (is_under unit.table unit.identity) us ≡ true
 
 some_in_info : (e : Encoding) (us : List Filed) → Every (Good e) us → any stands_in_info us ≡ true → SomeInInfo e us
-unfolding any
 some_in_info e [] g t = absurd (true_false t refl)
 some_in_info e (u ∷ us) g t = ⊎_elim
     (λ (z : stands_in_info u ≡ true).

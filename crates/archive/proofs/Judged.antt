@@ -1,15 +1,8 @@
 -- The lookups on a package that can be read, by the version and the table asked for, and what probing says.
-use mathlib.Core.Path.{◌≡◌, refl, sym, ap, ◌∙◌}
-use mathlib.Core.Logic.{◌⊎◌, ⊎_elim}
-use mathlib.Core.Bool.{true, false, ◌&&◌, ◌||◌}
-use mathlib.Core.List.{List, [], ◌∷◌}
-use mathlib.Core.Option.{Option, some, none}
-use Prim.Native.Nat.{ℕ, ◌%◌, ◌<◌, ◌≤◌}
-use native.Mathlib.Omega.{arith}
-use lib.Dec.{eqb, leb}
-use lib.ListN.{length, get_or, length-map}
-use borrow.Author.Tests.{eq-eqb, ne_eqb, le-leb}
-use Rattle.octets.specs.Checked.{Check, pass, refuse, ◌>>=◌}
+use Rattle.std.proofs.Common.{◌≡◌, refl, sym, ap, ◌∙◌, ◌⊎◌, ⊎_elim, true, false, ◌&&◌, ◌||◌, List, [], ◌∷◌, ℕ, ◌%◌, ◌<◌, ◌≤◌, arith, eqb, leb, length, get_or, eq-eqb, ne_eqb, le-leb}
+use Rattle.std.specs.Prelude.{Option, Some, None, Result, Ok, Err}
+use lib.ListN.{length-map}
+use Rattle.octets.specs.Checked.{◌>>=◌}
 use Rattle.octets.proofs.Checks.{passes, fails, then_pass, then_refuse, known, and_both, not_left, not_right, or_left, or_right}
 use Rattle.bundle.specs.Bundle.{Object}
 use Rattle.index.specs.Index.{Index}
@@ -33,7 +26,7 @@ tables_good : (t : ℕ) → (t ≡ 1) ⊎ (t ≡ 2) → table_good t ≡ true
 unfolding table_good
 tables_good t c = ⊎_elim (λ z. or_left (eqb t 1) (eqb t 2) (eq-eqb t 1 z)) (λ z. or_right (eqb t 1) (eqb t 2) (eq-eqb t 2 z)) c
 
-module _ (p : List ℕ) (k : Package) (r : package_of p ≡ pass k) (v : ℕ) where
+module _ (p : List ℕ) (k : Package) (r : package_of p ≡ Ok k) (v : ℕ) where
   module _ (g : version_good k v ≡ true) (t : ℕ) (c : (t ≡ 1) ⊎ (t ≡ 2)) (x : ℕ) where
     pub part_judged_law : (code : ℕ) → 1 ≤ code → code ≤ 10 → looked_up p v t x code ≡ answered (in_table (index_for k t) x (λ i row. part_place k i row code))
     unfolding looked_up part_judged
@@ -57,21 +50,21 @@ module _ (p : List ℕ) (k : Package) (r : package_of p ≡ pass k) (v : ℕ) wh
     string_refused n = ap answered (then_pass (package_of p) _ k r ∙ fails (version_good k v) 22 _ g)
 
 -- ---- where a search ends
-pub ends_nowhere : (i : Index) (x n : ℕ) (answer : Index → ℕ → Check Place) → probe i x ≡ nowhere n → answered (in_table (some i) x answer) ≡ absent n
+pub ends_nowhere : (i : Index) (x n : ℕ) (answer : Index → ℕ → Result Place ℕ) → probe i x ≡ nowhere n → answered (in_table (Some i) x answer) ≡ absent n
 unfolding in_table at_row answered
 ends_nowhere i x n answer e = ap answered (ap (λ (q : Probe). at_row i q (answer i)) e)
 
-pub ends_found : (i : Index) (x slot n row : ℕ) (answer : Index → ℕ → Check Place) (place : Place) → probe i x ≡ found slot n → get_or i.rows slot 0 ≡ row → answer i row ≡ pass place
-    → answered (in_table (some i) x answer) ≡ part place.start place.size n
+pub ends_found : (i : Index) (x slot n row : ℕ) (answer : Index → ℕ → Result Place ℕ) (place : Place) → probe i x ≡ found slot n → get_or i.rows slot 0 ≡ row → answer i row ≡ Ok place
+    → answered (in_table (Some i) x answer) ≡ part place.start place.size n
 unfolding in_table at_row answered
 ends_found i x slot n row answer place e g h =
-    ap answered (ap (λ (q : Probe). at_row i q (answer i)) e ∙ then_pass (answer i (get_or i.rows slot 0)) (λ q. pass (part q.start q.size n)) place (ap (answer i) g ∙ h))
+    ap answered (ap (λ (q : Probe). at_row i q (answer i)) e ∙ then_pass (answer i (get_or i.rows slot 0)) (λ q. Ok (part q.start q.size n)) place (ap (answer i) g ∙ h))
 
-pub ends_refused : (i : Index) (x slot n row m : ℕ) (answer : Index → ℕ → Check Place) → probe i x ≡ found slot n → get_or i.rows slot 0 ≡ row → answer i row ≡ refuse m
-    → answered (in_table (some i) x answer) ≡ refused m
+pub ends_refused : (i : Index) (x slot n row m : ℕ) (answer : Index → ℕ → Result Place ℕ) → probe i x ≡ found slot n → get_or i.rows slot 0 ≡ row → answer i row ≡ Err m
+    → answered (in_table (Some i) x answer) ≡ refused m
 unfolding in_table at_row answered
 ends_refused i x slot n row m answer e g h =
-    ap answered (ap (λ (q : Probe). at_row i q (answer i)) e ∙ then_refuse (answer i (get_or i.rows slot 0)) (λ q. pass (part q.start q.size n)) m (ap (answer i) g ∙ h))
+    ap answered (ap (λ (q : Probe). at_row i q (answer i)) e ∙ then_refuse (answer i (get_or i.rows slot 0)) (λ q. Ok (part q.start q.size n)) m (ap (answer i) g ∙ h))
 
 -- ---- the slots of a table
 module _ (b p : List ℕ) (a : Accepted b p) (t : ℕ) where
@@ -128,8 +121,8 @@ module _ (b p : List ℕ) (a : Accepted b p) (v : ℕ) where
 
   has_form : (t : ℕ) (o : Option Index) → Table a t o → v ≡ form_of (version_in a) → has_version v o ≡ true
   unfolding has_version
-  has_form t none (empty z) e = refl
-  has_form t (some j) (full n i) e = eq-eqb _ v (written_version (version_in a) (rows_in a t) i.slots ∙ sym e)
+  has_form t None (empty z) e = refl
+  has_form t (Some j) (full n i) e = eq-eqb _ v (written_version (version_in a) (rows_in a t) i.slots ∙ sym e)
 
   form_is : (eqb (form_of (version_in a)) 2 || eqb (form_of (version_in a)) 5) ≡ true
   form_is = ⊎_elim (λ r. rw r.1) (λ r. rw r.1) (forms (version_in a))
@@ -143,8 +136,8 @@ module _ (b p : List ℕ) (a : Accepted b p) (v : ℕ) where
   -- another version, where a table was written
   wrong_form : (t : ℕ) (o : Option Index) → Table a t o → 0 < length (rows_in a t) → (v ≡ form_of (version_in a) → ⊥) → has_version v o ≡ false
   unfolding has_version
-  wrong_form t none (empty z) n e = absurd (omega (arith, ap length z))
-  wrong_form t (some j) (full n i) m e = ne_eqb _ v (λ z. e (sym (sym (written_version (version_in a) (rows_in a t) i.slots) ∙ z)))
+  wrong_form t None (empty z) n e = absurd (omega (arith, ap length z))
+  wrong_form t (Some j) (full n i) m e = ne_eqb _ v (λ z. e (sym (sym (written_version (version_in a) (rows_in a t) i.slots) ∙ z)))
 
   pub version_wrong : (k : Package) → Table a 1 k.cu_index → Table a 2 k.tu_index → (v ≡ form_of (version_in a) → ⊥) → (0 < length (rows_in a 1)) ⊎ (0 < length (rows_in a 2))
       → version_good k v ≡ false

@@ -1,17 +1,10 @@
 -- Nothing is lost, proved.
-use mathlib.Core.Path.{◌≡◌, refl, sym, ap, ap₂, ◌∙◌, subst}
-use mathlib.Core.Logic.{inl, inr, ⊎_elim}
-use mathlib.Core.Bool.{Bool, true, false, not, ◌&&◌}
-use mathlib.Core.List.{List, [], ◌∷◌, ◌++◌, map, append-nil}
-use Prim.Native.Nat.{ℕ, ◌+◌, ◌≤◌}
-use native.Mathlib.Omega.{arith}
-use lib.Dec.{eqb}
-use lib.ListN.{length, length-append}
-use borrow.Author.Tests.{leb-true, leb-false, not-true}
+use Rattle.std.proofs.Common.{◌≡◌, refl, sym, ap, ap₂, ◌∙◌, subst, inl, inr, ⊎_elim, Bool, true, false, not, ◌&&◌, List, [], ◌∷◌, ◌++◌, map, append-nil, ℕ, ◌+◌, ◌≤◌, arith, eqb, length, length-append, leb-true, leb-false}
+use borrow.Author.Tests.{not-true}
 use Rattle.numbers.specs.Sections.{str_offsets_code}
 use Rattle.octets.specs.Octets.{part}
 use Rattle.octets.specs.Lists.{joined, those, any, all, has, sum}
-use Rattle.octets.specs.Checked.{pass}
+use Rattle.std.specs.Prelude.{Ok}
 use Rattle.octets.proofs.Checks.{bind_pass, pass_inj, known, and_left, and_right, or_left, or_right}
 use Rattle.octets.proofs.Elements.{has_append}
 use Rattle.octets.proofs.Lists.{those_keeps, those_skips}
@@ -54,7 +47,7 @@ unfolding body first_part
 body_later b s ps c t = rw (body, first_part, t)
 
 all_are_first : (b : List ℕ) (ps : List Part) (c : ℕ) → count ps c ≤ 1 → joined (map (bytes_of b) (parts_of ps c)) ≡ body b ps c
-unfolding joined count parts_of those body first_part
+unfolding count parts_of body first_part
 all_are_first b [] c h = refl
 all_are_first b (s ∷ ps) c h = ⊎_elim
     (λ (t : eqb s.code c ≡ true).
@@ -91,8 +84,8 @@ others_once c t = has_append shared (11 ∷ 12 ∷ 13 ∷ []) c ∙ or_right (ha
 
 -- ---- all objects
 inputs_hold : (b : List ℕ) (big : Bool) (first : ℕ) (bases : BySection ℕ) (earlier : List Filed) (os : List Object) (f : Filing) (c : ℕ)
-    → filing_from b big first bases earlier os ≡ pass f → has only_once c ≡ true → all_in c b os ≡ joined (map (λ i. i.bytes c) f.inputs)
-unfolding filing_from all_in joined
+    → filing_from b big first bases earlier os ≡ Ok f → has only_once c ≡ true → all_in c b os ≡ joined (map (λ i. i.bytes c) f.inputs)
+unfolding filing_from all_in
 inputs_hold b big first bases earlier [] f c q g = ap (λ (w : Filing). joined (map (λ (i : Input). i.bytes c) w.inputs)) (pass_inj q)
 inputs_hold b big first bases earlier (o ∷ os) f c q g =
     let i = bind_pass (input_of b big first o) _ f q in
@@ -105,7 +98,7 @@ inputs_hold b big first bases earlier (o ∷ os) f c q g =
     ∙ ap (λ (w : Filing). joined (map (λ (j : Input). j.bytes c) w.inputs)) (pass_inj rest.2)
 
 one_in : (b : List ℕ) (big : Bool) (first : ℕ) (bases : BySection ℕ) (before behind : List Object) (o : Object) (us : List Filed) (f : Filing) (c : ℕ)
-    → filing_from b big first bases us (before ++ (o ∷ behind)) ≡ pass f → has only_once c ≡ true → count o.parts c ≤ 1
+    → filing_from b big first bases us (before ++ (o ∷ behind)) ≡ Ok f → has only_once c ≡ true → count o.parts c ≤ 1
 unfolding filing_from
 one_in b big first bases [] behind o us f c q g =
     let i = bind_pass (input_of b big first o) _ f q in
@@ -117,7 +110,7 @@ one_in b big first bases (k ∷ before) behind o us f c q g =
     one_in b big first (grown bases i.0) before behind o (us ++ here.0) rest.0 c rest.1 g
 
 long : (is : List Input) (c : ℕ) → length (joined (map (λ i. i.bytes c) is)) ≡ lengths_in is c
-unfolding joined lengths_in sum
+unfolding lengths_in sum
 long [] c = refl
 long (i ∷ is) c = length-append (i.bytes c) (joined (map (λ (j : Input). j.bytes c) is)) ∙ ap (λ (n : ℕ). length (i.bytes c) + n) (long is c)
 
@@ -141,7 +134,7 @@ module _ (b p : List ℕ) (a : Accepted b p) (h : Bytes b) where
   unfolding filing_of filing_from first_word
   no_filing q =
       let big = a.bundle.big in
-      let e : filing_from b big (first_word []) (λ c. 0) [] [] ≡ pass a.filing = ap (λ (l : List Object). filing_from b big (first_word l) (λ c. 0) [] l) (sym q) ∙ a.filed in
+      let e : filing_from b big (first_word []) (λ c. 0) [] [] ≡ Ok a.filing = ap (λ (l : List Object). filing_from b big (first_word l) (λ c. 0) [] l) (sym q) ∙ a.filed in
       sym (pass_inj e)
 
   package_holds : (o : Object) (os : List Object) → a.bundle.objects ≡ o ∷ os → (c : ℕ) → all_of c p ≡ bytes_in (section_list a.filing a.cu a.tu) c
@@ -165,7 +158,7 @@ module _ (b p : List ℕ) (a : Accepted b p) (h : Bytes b) where
       (objects_or a.bundle.objects)
 
   pub str_offsets_length : StrOffsetsInLength b p
-  unfolding shared has any
+  unfolding shared has
   str_offsets_length = ⊎_elim
       (λ (z : a.bundle.objects ≡ []). ap length (none_in_package z 6 ∙ sym (none_in_bundle z 6)))
       (λ (z : (o : Object) × (os : List Object) × (a.bundle.objects ≡ o ∷ os)).
@@ -185,7 +178,7 @@ module _ (b p : List ℕ) (a : Accepted b p) (h : Bytes b) where
 
   -- ---- units
   pub kept_units : KeptUnitsJoined b p
-  unfolding unit_bytes kept keep_all those joined
+  unfolding unit_bytes kept keep_all
   kept_units home t = ⊎_elim
       (λ (z : a.bundle.objects ≡ []). none_in_package z home ∙ sym (ap (λ (us : List Filed). unit_bytes (kept us) home) (handed_in_law b p a ∙ ap (λ (f : Filing). f.units) (no_filing z))))
       (λ (z : (o : Object) × (os : List Object) × (a.bundle.objects ≡ o ∷ os)).

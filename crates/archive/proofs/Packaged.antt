@@ -1,8 +1,5 @@
 -- From the two contracts, of packing and of looking up, and the theorem, to the answer of one question.
-use mathlib.Core.Path.{◌≡◌, refl, ap, ◌∙◌}
-use mathlib.Core.List.{List}
-use Prim.Native.Nat.{ℕ}
-use lib.ListN.{take}
+use Rattle.std.proofs.Common.{◌≡◌, refl, ap, ◌∙◌, List, ℕ, take}
 use Rattle.octets.proofs.Numbers.{Bytes}
 use Rattle.package.specs.Pack.{Answer, packed}
 use Rattle.std.specs.Prelude.{Ok, Err}

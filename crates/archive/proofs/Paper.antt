@@ -1,15 +1,8 @@
 -- The sheet of an accepted bundle's package says what the lookups answer, proved.
-use mathlib.Core.Path.{◌≡◌, refl, sym, ap, ◌∙◌}
-use mathlib.Core.Logic.{◌⊎◌, inl, inr, ⊎_elim}
-use mathlib.Core.Bool.{true, false}
-use mathlib.Core.List.{List, [], ◌∷◌, ◌++◌, map}
-use mathlib.Core.Option.{Option, some, none}
-use Prim.Native.Nat.{ℕ, ◌+◌, ◌*◌, ◌-◌, ◌<◌, ◌≤◌}
-use native.Mathlib.Omega.{arith}
-use lib.Dec.{leb}
-use lib.ListN.{length, get_or, length-map}
+use Rattle.std.proofs.Common.{◌≡◌, refl, sym, ap, ◌∙◌, ◌⊎◌, inl, inr, ⊎_elim, true, false, List, [], ◌∷◌, ◌++◌, map, ℕ, ◌+◌, ◌*◌, ◌-◌, ◌<◌, ◌≤◌, arith, leb, length, get_or}
+use Rattle.std.specs.Prelude.{Option, Some, None, Ok, Err}
+use lib.ListN.{length-map}
 use Rattle.octets.specs.Lists.{joined, all, distinct}
-use Rattle.octets.specs.Checked.{pass, refuse}
 use Rattle.octets.proofs.Checks.{passes, fails, then_pass, known}
 use Rattle.octets.proofs.Numbers.{Bytes}
 use Rattle.bundle.specs.Bundle.{Part, first_part}
@@ -36,10 +29,10 @@ use Rattle.archive.proofs.Absences.{Reads, reads}
 use Rattle.archive.proofs.FromBundleToAnswer.{answers_as_handed_in}
 
 -- ---- a lookup that isn't refused answers the place that the row's cell names
-module _ (p : List ℕ) (k : Package) (r : package_of p ≡ pass k) (v : ℕ) (g : version_good k v ≡ true) (t : ℕ) (c : (t ≡ 1) ⊎ (t ≡ 2))
-    (i : Index) (there : index_for k t ≡ some i) (x row : ℕ) (f : FoundIn i.rows i.identities x row)
-    (code : ℕ) (least : 1 ≤ code) (most : code ≤ 10) (never : (n : ℕ) → looked_up p v t x code ≡ refused n → ⊥) (d : Contribution) (cell : cell_of i row code ≡ some d) where
-  judged : looked_up p v t x code ≡ answered (in_table (some i) x (λ j q. part_place k j q code))
+module _ (p : List ℕ) (k : Package) (r : package_of p ≡ Ok k) (v : ℕ) (g : version_good k v ≡ true) (t : ℕ) (c : (t ≡ 1) ⊎ (t ≡ 2))
+    (i : Index) (there : index_for k t ≡ Some i) (x row : ℕ) (f : FoundIn i.rows i.identities x row)
+    (code : ℕ) (least : 1 ≤ code) (most : code ≤ 10) (never : (n : ℕ) → looked_up p v t x code ≡ refused n → ⊥) (d : Contribution) (cell : cell_of i row code ≡ Some d) where
+  judged : looked_up p v t x code ≡ answered (in_table (Some i) x (λ j q. part_place k j q code))
   judged = part_judged_law p k r v g t c x code least most ∙ ap (λ (o : Option Index). answered (in_table o x (λ j q. part_place k j q code))) there
 
   place : part_place k i row code ≡ place_in (first_part k.parts code) d
@@ -50,12 +43,12 @@ module _ (p : List ℕ) (k : Package) (r : package_of p ≡ pass k) (v : ℕ) (g
   unfolding place_in start_of
   looked = go (first_part k.parts code) refl
     where
-      no : (n : ℕ) → part_place k i row code ≡ refuse n → looked_up p v t x code ≡ part (start_of (first_part k.parts code) + d.offset) d.size f.looks
+      no : (n : ℕ) → part_place k i row code ≡ Err n → looked_up p v t x code ≡ part (start_of (first_part k.parts code) + d.offset) d.size f.looks
       no n e = absurd (never n (judged ∙ ends_refused i x f.slot f.looks row n (λ j q. part_place k j q code) (probe_found i x row f) f.row_there e))
 
       go : (o : Option Part) → first_part k.parts code ≡ o → looked_up p v t x code ≡ part (start_of (first_part k.parts code) + d.offset) d.size f.looks
-      go none e = no 24 (place ∙ ap (λ (o : Option Part). place_in o d) e)
-      go (some s) e = ⊎_elim
+      go None e = no 24 (place ∙ ap (λ (o : Option Part). place_in o d) e)
+      go (Some s) e = ⊎_elim
           (λ (z : leb (d.offset + d.size) s.size ≡ true).
           judged
           ∙ ends_found i x f.slot f.looks row (λ j q. part_place k j q code) (record { start = s.start + d.offset; size = d.size }) (probe_found i x row f) f.row_there
@@ -85,7 +78,7 @@ module _ (b p : List ℕ) (a : Accepted b p) (h : Bytes b) (v t : ℕ) (q : Aske
   of o x = joined (map (λ code. found_line p letter x code (looked_up p v t x code)) (sections_in o))
 
   -- a line, by the row and the column
-  module _ (i : Indexed a.bundle.big (version_in a) (rows_in a t) (index_of_table a t)) (there : index_for read.k t ≡ some (written (version_in a) (rows_in a t) i.slots)) where
+  module _ (i : Indexed a.bundle.big (version_in a) (rows_in a t) (index_of_table a t)) (there : index_for read.k t ≡ Some (written (version_in a) (rows_in a t) i.slots)) where
     abbrev index : Index
     index = written (version_in a) (rows_in a t) i.slots
 
@@ -115,7 +108,7 @@ module _ (b p : List ℕ) (a : Accepted b p) (h : Bytes b) (v t : ℕ) (q : Aske
         line_told p read.k read.read v read.good t q.tables index there (identity m) (1 + m) (found_row m l) code n.least n.most
         (λ k. ((answers_as_handed_in b p a h).neither_refuses v t (identity m) code 0 k q (record { from = n.least; to = n.most })).0) _ (line_cell index good apart j w (1 + m)) same letter
 
-    row_told : (m : ℕ) → m < length (identities_of (rows_in a t)) → row_lines letter index (1 + m) (identity m) ≡ of (some index) (identity m)
+    row_told : (m : ℕ) → m < length (identities_of (rows_in a t)) → row_lines letter index (1 + m) (identity m) ≡ of (Some index) (identity m)
     unfolding row_lines sections_in
     row_told m l =
         cells_told letter index (identity m) (λ code. found_line p letter (identity m) code (looked_up p v t (identity m) code)) ((1 + m - 1) * length index.codes) index.codes
@@ -125,22 +118,22 @@ module _ (b p : List ℕ) (a : Accepted b p) (h : Bytes b) (v t : ℕ) (q : Aske
     one_slot m l =
         rw (← i.slots_are) (slots_one (identities_of (rows_in a t)) (omega (arith, i.few, length-map (rows_in a t) (λ (r : Row). r.identity))) m l)
 
-    rows_lines : rows_from letter index 1 (length (identities_of (rows_in a t))) ≡ pass (joined (map (of (some index)) (identities_of (rows_in a t))))
+    rows_lines : rows_from letter index 1 (length (identities_of (rows_in a t))) ≡ Ok (joined (map (of (Some index)) (identities_of (rows_in a t))))
     unfolding written
-    rows_lines = rows_told letter index (of (some index)) 1 (identities_of (rows_in a t)) one_slot row_told
+    rows_lines = rows_told letter index (of (Some index)) 1 (identities_of (rows_in a t)) one_slot row_told
 
-  told : (o : Option Index) → index_for read.k t ≡ o → Table a t o → table_lines letter o ≡ pass (joined (map (of o) (theorem.identities_of b t)))
-  unfolding table_lines joined written
-  told none e (empty z) = sym (ap (λ (xs : List ℕ). pass (joined (map (of none) xs))) (no_slots b p a t z).0)
-  told (some j) e (full n i) =
+  told : (o : Option Index) → index_for read.k t ≡ o → Table a t o → table_lines letter o ≡ Ok (joined (map (of o) (theorem.identities_of b t)))
+  unfolding table_lines written
+  told None e (empty z) = sym (ap (λ (xs : List ℕ). Ok (joined (map (of None) xs))) (no_slots b p a t z).0)
+  told (Some j) e (full n i) =
       ap (rows_from letter (index i e) 1) (sym (length-map (rows_in a t) (λ (r : Row). r.identity))) ∙ rows_lines i e
-      ∙ sym (ap (λ (xs : List ℕ). pass (joined (map (of (some (index i e))) xs))) (identities_are b p a t))
+      ∙ sym (ap (λ (xs : List ℕ). Ok (joined (map (of (Some (index i e))) xs))) (identities_are b p a t))
 
-  pub table_told : table_lines letter (index_for (package_in p) t) ≡ pass (lines_found p v t letter (theorem.identities_of b t))
+  pub table_told : table_lines letter (index_for (package_in p) t) ≡ Ok (lines_found p v t letter (theorem.identities_of b t))
   unfolding lines_found
   table_told =
       ap (λ (z : Package). table_lines letter (index_for z t)) same ∙ told (index_for read.k t) refl read.table_read
-      ∙ sym (ap (λ (z : Package). pass (joined (map (of (index_for z t)) (theorem.identities_of b t)))) same)
+      ∙ sym (ap (λ (z : Package). Ok (joined (map (of (index_for z t)) (theorem.identities_of b t)))) same)
 
 -- ---- both tables
 module _ (b p : List ℕ) (a : Accepted b p) (h : Bytes b) (v : ℕ) (e : theorem.is_index_version b v ≡ true) where
@@ -150,10 +143,10 @@ module _ (b p : List ℕ) (a : Accepted b p) (h : Bytes b) (v : ℕ) (e : theore
   second : Asked b v 2
   second = record { version = e; tables = inr refl }
 
-  is : package_of p ≡ pass (package_in p)
-  is = (read b p a h v 1 first letter_c).read ∙ sym (ap pass (same b p a h v 1 first letter_c))
+  is : package_of p ≡ Ok (package_in p)
+  is = (read b p a h v 1 first letter_c).read ∙ sym (ap Ok (same b p a h v 1 first letter_c))
 
-  pub paper_told : sheet_lines p ≡ pass (lines_found p v 1 letter_c (theorem.identities_of b 1) ++ lines_found p v 2 letter_t (theorem.identities_of b 2))
+  pub paper_told : sheet_lines p ≡ Ok (lines_found p v 1 letter_c (theorem.identities_of b 1) ++ lines_found p v 2 letter_t (theorem.identities_of b 2))
   unfolding sheet_lines index_for
   paper_told = then_pass _ _ (package_in p) is ∙ then_pass _ _ _ (table_told b p a h v 1 first letter_c) ∙ then_pass _ _ _ (table_told b p a h v 2 second letter_t)
 

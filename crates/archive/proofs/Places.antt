@@ -1,16 +1,7 @@
 -- Where the lookups find what a row's cells name.
-use mathlib.Core.Path.{◌≡◌, refl, sym, ap, ◌∙◌, subst}
-use mathlib.Core.Logic.{⊎_elim}
-use mathlib.Core.Bool.{true, false}
-use mathlib.Core.List.{List, [], ◌∷◌}
-use mathlib.Core.Option.{Option, some, none}
-use Prim.Native.Nat.{ℕ, ◌+◌, ◌<◌, ◌≤◌}
-use native.Mathlib.Omega.{arith}
-use lib.Dec.{leb}
-use lib.ListN.{length, get_or}
-use borrow.Author.Tests.{le-leb}
+use Rattle.std.proofs.Common.{◌≡◌, refl, sym, ap, ◌∙◌, subst, ⊎_elim, true, false, List, [], ◌∷◌, ℕ, ◌+◌, ◌<◌, ◌≤◌, arith, leb, length, get_or, le-leb}
+use Rattle.std.specs.Prelude.{Option, Some, None, Result, Ok}
 use Rattle.octets.specs.Octets.{part as bytes_at}
-use Rattle.octets.specs.Checked.{Check, pass}
 use Rattle.octets.proofs.Checks.{passes, known, true_false}
 use Rattle.octets.proofs.Elements.{at_any}
 use Rattle.octets.proofs.Numbers.{Bytes}
@@ -35,9 +26,9 @@ use Rattle.lookup.specs.Lookup.{Place, place_in, cell_place}
 use Rattle.archive.proofs.Read.{rows_in, version_in}
 
 -- a place in p, where these bytes stand
-pub record PlaceOf (p : List ℕ) (c : Check Place) (bytes : List ℕ) : Type 0 where
+pub record PlaceOf (p : List ℕ) (c : Result Place ℕ) (bytes : List ℕ) : Type 0 where
   pub start : ℕ
-  pub is : c ≡ pass (record { start = start; size = length bytes })
+  pub is : c ≡ Ok (record { start = start; size = length bytes })
   pub holds : bytes_at p start (length bytes) ≡ bytes
 
 place_some : (p : List ℕ) (ps : List Part) (c : ℕ) (s : List ℕ) (q : Contribution) → SectionIn p ps c s → q.offset + q.size ≤ length s
@@ -48,28 +39,28 @@ place_some p ps c s q r h =
     record {
       start = r.lies.start + q.offset;
       is = rw r.is (passes (leb (q.offset + q.size) r.lies.size) 24 _ (le-leb (q.offset + q.size) r.lies.size (omega (arith, r.size))))
-          ∙ ap (λ (n : ℕ). pass (record { start = r.lies.start + q.offset; size = n })) (sym l);
+          ∙ ap (λ (n : ℕ). Ok (record { start = r.lies.start + q.offset; size = n })) (sym l);
       holds = ap (bytes_at p (r.lies.start + q.offset)) l
           ∙ sym (part_part p r.lies.start (length s) q.offset q.size h)
           ∙ ap (λ (z : List ℕ). bytes_at z q.offset q.size) r.bytes;
     }
 
-place_none : (p : List ℕ) (ps : List Part) (c : ℕ) → PlaceOf p (cell_place ps c none) []
+place_none : (p : List ℕ) (ps : List Part) (c : ℕ) → PlaceOf p (cell_place ps c None) []
 unfolding cell_place
 place_none p ps c = record { start = 0; is = refl; holds = part_none p 0 }
 
-cell_place_law : (p : List ℕ) (ps : List Part) (c : ℕ) (o : Option Contribution) (q : Contribution) (bytes : List ℕ) → o ≡ some q → PlaceOf p (place_in (first_part ps c) q) bytes
+cell_place_law : (p : List ℕ) (ps : List Part) (c : ℕ) (o : Option Contribution) (q : Contribution) (bytes : List ℕ) → o ≡ Some q → PlaceOf p (place_in (first_part ps c) q) bytes
     → PlaceOf p (cell_place ps c o) bytes
 unfolding cell_place
 cell_place_law p ps c o q bytes e r = rw e r
 
-cell_nothing : (p : List ℕ) (ps : List Part) (c : ℕ) (o : Option Contribution) → o ≡ none → PlaceOf p (cell_place ps c o) []
+cell_nothing : (p : List ℕ) (ps : List Part) (c : ℕ) (o : Option Contribution) → o ≡ None → PlaceOf p (cell_place ps c o) []
 cell_nothing p ps c o e = rw e (place_none p ps c)
 
-is_some_law : {A : Type 0} (o : Option A) → is_some o ≡ true → (a : A) × (o ≡ some a)
+is_some_law : {A : Type 0} (o : Option A) → is_some o ≡ true → (a : A) × (o ≡ Some a)
 unfolding is_some
-is_some_law (some a) e = (a, refl)
-is_some_law none e = absurd (true_false e refl)
+is_some_law (Some a) e = (a, refl)
+is_some_law None e = absurd (true_false e refl)
 
 -- ---- the cells of one row of a package with objects
 module _ (b p : List ℕ) (a : Accepted b p) (h : Bytes b) (o : Object) (os : List Object) (q : a.bundle.objects ≡ o ∷ os)
@@ -84,12 +75,12 @@ module _ (b p : List ℕ) (a : Accepted b p) (h : Bytes b) (o : Object) (os : Li
   cell = (get_or (rows_in a t) k no_row).cells c
 
   -- what a cell of any row says
-  cell_says : (j : ℕ) → j < length (rows_in a t) → (d : Contribution) → (get_or (rows_in a t) j no_row).cells c ≡ some d
+  cell_says : (j : ℕ) → j < length (rows_in a t) → (d : Contribution) → (get_or (rows_in a t) j no_row).cells c ≡ Some d
       → CellFacts (encoding_in b p a h) (bytes_in (section_list a.filing a.cu a.tu)) c d
   cell_says j l d e = (each_at (rows_in a t) no_row j (rows_good (encoding_in b p a h) a.filing a.cu a.tu (facts_of b p a h) t) l).1.1 c d e
 
   -- of a row that has the cell
-  pub place_own : (d : Contribution) → cell ≡ some d
+  pub place_own : (d : Contribution) → cell ≡ Some d
       → PlaceOf p (cell_place (parts_from 8 (sections_of b p a)) c (cell_of index (k + 1) c)) (bytes_at section d.offset d.size)
   unfolding encoding_of
   place_own d e =
@@ -99,7 +90,7 @@ module _ (b p : List ℕ) (a : Accepted b p) (h : Bytes b) (o : Object) (os : Li
       (place_some p (parts_from 8 (sections_of b p a)) c section d (section_there b p a o os q c f.there) f.within)
 
   -- of a row that hasn't
-  pub place_not : cell ≡ none → PlaceOf p (cell_place (parts_from 8 (sections_of b p a)) c (cell_of index (k + 1) c)) []
+  pub place_not : cell ≡ None → PlaceOf p (cell_place (parts_from 8 (sections_of b p a)) c (cell_of index (k + 1) c)) []
   unfolding encoding_of
   place_not e = ⊎_elim
       (λ (g : any_has (rows_in a t) c ≡ true).

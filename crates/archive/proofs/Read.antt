@@ -1,17 +1,9 @@
 -- The package of an accepted bundle as the lookups read it.
-use mathlib.Core.Path.{◌≡◌, refl, sym, ap, ◌∙◌}
-use mathlib.Core.Logic.{◌⊎◌, inl, inr, ⊎_elim}
-use mathlib.Core.Bool.{Bool, true, ◌&&◌}
-use mathlib.Core.List.{List, [], ◌∷◌}
-use mathlib.Core.Option.{Option, some, none}
-use Prim.Native.Nat.{ℕ, ◌%◌, ◌<◌}
-use native.Mathlib.Omega.{arith}
+use Rattle.std.proofs.Common.{◌≡◌, refl, sym, ap, ◌∙◌, ◌⊎◌, inl, inr, ⊎_elim, Bool, true, ◌&&◌, List, [], ◌∷◌, ℕ, ◌%◌, ◌<◌, arith, eqb, leb, length, le-leb, eq-eqb}
+use Rattle.std.specs.Prelude.{Option, Some, None, Ok}
 use native.Mathlib.Decide.{ℕ_discrete}
-use lib.Dec.{eqb, leb}
-use lib.ListN.{length}
-use borrow.Author.Tests.{le-leb, eq-eqb}
 use Rattle.octets.specs.Lists.{all}
-use Rattle.octets.specs.Checked.{pass, renumbered}
+use Rattle.octets.specs.Checked.{renumbered}
 use Rattle.octets.proofs.Checks.{passes, then_pass, renumbered_pass, and_both}
 use Rattle.octets.proofs.Elements.{no_length}
 use Rattle.octets.proofs.Lists.{all_cons}
@@ -41,8 +33,8 @@ version_in a = first_word a.bundle.objects % 256
 
 -- what is read of a table: nothing where it has no rows, else the index that was written
 pub data Table {b p : List ℕ} (a : Accepted b p) (t : ℕ) : Option Index → Type 0 where
-  empty : rows_in a t ≡ [] → Table a t none
-  full : 0 < length (rows_in a t) → (i : Indexed a.bundle.big (version_in a) (rows_in a t) (index_of_table a t)) → Table a t (some (written (version_in a) (rows_in a t) i.slots))
+  empty : rows_in a t ≡ [] → Table a t None
+  full : 0 < length (rows_in a t) → (i : Indexed a.bundle.big (version_in a) (rows_in a t) (index_of_table a t)) → Table a t (Some (written (version_in a) (rows_in a t) i.slots))
 
 pub empty_or : {A : Type 0} (xs : List A) → (xs ≡ []) ⊎ (0 < length xs)
 empty_or [] = inl refl
@@ -50,13 +42,13 @@ empty_or (x ∷ xs) = inr (omega arith)
 
 pub table : (b p : List ℕ) (a : Accepted b p) → Bytes b → (t : ℕ) → (t ≡ 1) ⊎ (t ≡ 2) → (o : Option Index) × Table a t o
 table b p a h t c = ⊎_elim
-    (λ z. (none, empty z))
-    (λ n. let i = table_indexed b p a h t c n in (some (written (version_in a) (rows_in a t) i.slots), full n i))
+    (λ z. (None, empty z))
+    (λ n. let i = table_indexed b p a h t c n in (Some (written (version_in a) (rows_in a t) i.slots), full n i))
     (empty_or (rows_in a t))
 
 -- ---- without objects
 pub nothing_read : (b p : List ℕ) (a : Accepted b p) → a.bundle.objects ≡ []
-    → package_of p ≡ pass (record { encoding = encoding_of a.bundle.big 0; parts = []; cu_index = none; tu_index = none })
+    → package_of p ≡ Ok (record { encoding = encoding_of a.bundle.big 0; parts = []; cu_index = None; tu_index = None })
 unfolding package_of objects_judged length_good
 nothing_read b p a q =
     let n = none_length b p a q in
@@ -80,18 +72,17 @@ body_written b p a o os q c = elim (ℕ_discrete (length (bytes_in (section_list
   | no n ↦ body_is p (parts_from 8 (sections_of b p a)) c (bytes_in (section_list a.filing a.cu a.tu) c) (section_there b p a o os q c (omega arith))
 ]
 
-index_there : (big : Bool) (p : List ℕ) (ps : List Part) (c : ℕ) (s : List ℕ) (i : Index) → SectionIn p ps c s → index_of big s ≡ pass i → package_index big p ps c ≡ pass (some i)
+index_there : (big : Bool) (p : List ℕ) (ps : List Part) (c : ℕ) (s : List ℕ) (i : Index) → SectionIn p ps c s → index_of big s ≡ Ok i → package_index big p ps c ≡ Ok (Some i)
 unfolding package_index
 index_there big p ps c s i r q =
     rw (package_index, r.is)
-    (then_pass (renumbered 21 (index_of big (body p ps c))) (λ j. pass (some j)) i (renumbered_pass 21 (index_of big (body p ps c)) i (ap (index_of big) (body_is p ps c s r) ∙ q)))
+    (then_pass (renumbered 21 (index_of big (body p ps c))) (λ j. Ok (Some j)) i (renumbered_pass 21 (index_of big (body p ps c)) i (ap (index_of big) (body_is p ps c s r) ∙ q)))
 
-index_missing : (big : Bool) (p : List ℕ) (ps : List Part) (c : ℕ) → first_part ps c ≡ none → package_index big p ps c ≡ pass none
+index_missing : (big : Bool) (p : List ℕ) (ps : List Part) (c : ℕ) → first_part ps c ≡ None → package_index big p ps c ≡ Ok None
 unfolding package_index
 index_missing big p ps c q = rw (package_index, q)
 
 all_so : {A : Type 0} (f : A → Bool) → ((x : A) → f x ≡ true) → (xs : List A) → all f xs ≡ true
-unfolding all
 all_so f h [] = refl
 all_so f h (x ∷ xs) = all_cons f x xs (h x) ∙ all_so f h xs
 
@@ -101,15 +92,15 @@ module _ (b p : List ℕ) (a : Accepted b p) (h : Bytes b) (o : Object) (os : Li
 
   -- the index of a table, at the code where its bytes stand
   index_read : (t c : ℕ) (x : Option Index) → (t ≡ 1) ⊎ (t ≡ 2) → bytes_in (section_list a.filing a.cu a.tu) c ≡ index_of_table a t → Table a t x
-      → package_index a.bundle.big p parts_in c ≡ pass x
-  index_read t c none d e (empty z) =
+      → package_index a.bundle.big p parts_in c ≡ Ok x
+  index_read t c None d e (empty z) =
       index_missing a.bundle.big p parts_in c (section_missing b p a o os q c (ap length (e ∙ table_empty b p a h t d z)))
-  index_read t c (some i) d e (full n r) =
+  index_read t c (Some i) d e (full n r) =
       index_there a.bundle.big p parts_in c (bytes_in (section_list a.filing a.cu a.tu) c) (written (version_in a) (rows_in a t) r.slots)
       (section_there b p a o os q c (omega (arith, ap length e, r.length_is))) (ap (index_of a.bundle.big) e ∙ r.reads)
 
   pub package_is : (cu tu : Option Index) → Table a 1 cu → Table a 2 tu
-      → package_of p ≡ pass (record { encoding = encoding_of a.bundle.big o.word; parts = parts_from 8 (sections_of b p a); cu_index = cu; tu_index = tu })
+      → package_of p ≡ Ok (record { encoding = encoding_of a.bundle.big o.word; parts = parts_from 8 (sections_of b p a); cu_index = cu; tu_index = tu })
   unfolding package_of objects_judged object_judged index_of_table
   package_is cu tu one two =
       let big = a.bundle.big in

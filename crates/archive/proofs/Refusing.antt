@@ -1,10 +1,5 @@
 -- By which numbers calls refuse, proved.
-use mathlib.Core.Path.{◌≡◌, refl}
-use mathlib.Core.Logic.{inl, inr, ⊎_elim}
-use mathlib.Core.Bool.{true, false}
-use mathlib.Core.List.{List}
-use Prim.Native.Nat.{ℕ, ◌≤◌}
-use native.Mathlib.Omega.{arith}
+use Rattle.std.proofs.Common.{◌≡◌, refl, inl, inr, ⊎_elim, true, false, List, ℕ, ◌≤◌, arith}
 use Rattle.numbers.specs.Limits.{small_work}
 use Rattle.octets.proofs.Checks.{known}
 use Rattle.bundle.specs.Bundle.{length_good}

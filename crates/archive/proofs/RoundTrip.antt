@@ -1,17 +1,10 @@
 -- The round trip of a .dwp file, proved: the sections that are written are the package's, and the first unit of info states its object word.
-use mathlib.Core.Path.{◌≡◌, refl, sym, ap, ap₂, ◌∙◌, subst}
-use mathlib.Core.Logic.{◌⊎◌, inl, inr, ⊎_elim}
-use mathlib.Core.Bool.{Bool, true, false}
-use mathlib.Core.List.{List, [], ◌∷◌, map}
-use mathlib.Core.Option.{some}
-use Prim.Native.Nat.{ℕ, ◌/◌, ◌^◌, ◌≤◌, ◌<◌}
-use native.Mathlib.Omega.{arith}
-use lib.Dec.{leb}
-use lib.ListN.{length}
-use borrow.Author.Tests.{le-leb, lt-leb, leb-true, leb-false}
+use Rattle.std.proofs.Common.{◌≡◌, refl, sym, ap, ap₂, ◌∙◌, subst, ◌⊎◌, inl, inr, ⊎_elim, Bool, true, false, List, [], ◌∷◌, map, ℕ, ◌/◌, ◌^◌, ◌≤◌, ◌<◌, arith, leb, length, le-leb, leb-true, leb-false}
+use Rattle.std.specs.Prelude.{Some, Result, Ok}
+use borrow.Author.Tests.{lt-leb}
 use Rattle.numbers.specs.Sections.{info_code}
 use Rattle.octets.specs.Lists.{those, any, has}
-use Rattle.octets.specs.Checked.{Check, pass, mapped}
+use Rattle.octets.specs.Checked.{mapped}
 use Rattle.octets.proofs.Checks.{true_false, known, and_right}
 use Rattle.octets.proofs.Lists.{length_those}
 use Rattle.octets.proofs.Mapped.{those_map}
@@ -90,7 +83,7 @@ module _ (b p : List ℕ) (a : Accepted b p) (h : Bytes b) (o : Object) (os : Li
         (known (leb 1 (length (bytes_in list c))));
   }
     where
-      counted : {x : Part} → first_part parts c ≡ some x → (leb 1 (count parts c) ≡ true) ⊎ (leb 1 (count parts c) ≡ false) → leb 1 (count parts c) ≡ true
+      counted : {x : Part} → first_part parts c ≡ Some x → (leb 1 (count parts c) ≡ true) ⊎ (leb 1 (count parts c) ≡ false) → leb 1 (count parts c) ≡ true
       counted e (inl t) = t
       counted e (inr t) = some_none (sym e ∙ none_counted c parts (omega (arith, leb-false 1 (count parts c) t)))
 
@@ -111,7 +104,7 @@ module _ (b p : List ℕ) (a : Accepted b p) (h : Bytes b) (o : Object) (os : Li
 
   -- ---- they can be written
   named : Every Named list
-  unfolding section_list codes has any
+  unfolding section_list codes has
   named = also refl (also refl (also refl (also refl (also refl (also refl (also refl (also refl (also refl (also refl (also refl (also refl (also refl nothing))))))))))))
 
   few : length ss ≤ 13
@@ -141,14 +134,14 @@ module _ (b p : List ℕ) (a : Accepted b p) (h : Bytes b) (o : Object) (os : Li
   pub info_is : bytes_in ss info_code ≡ unit_bytes (kept a.filing.units) info_code
   info_is = (left list info_code (list_distinct a.filing a.cu a.tu)).bytes ∙ info_bytes a.filing a.cu a.tu
 
-  word_stated : any stands_in_info (handed_in b) ≡ true → pass o.word ≡ mapped object_word (unit_stated big (bytes_in ss info_code))
+  word_stated : any stands_in_info (handed_in b) ≡ true → Ok o.word ≡ mapped object_word (unit_stated big (bytes_in ss info_code))
   unfolding encoding_of
   word_stated t =
       let i = in_info t in
       let u = i.unit in
       let r = i.good.unit.read in
       let alone = ap₂ (λ (d : Encoding) (n : ℕ). unit_of d n r.abbreviations u.bytes) (sym i.good.object.encoded) (sym i.home) ∙ r.alone in
-      ap pass (sym word_is)
+      ap Ok (sym word_is)
       ∙ unit_stated_law e r.abbreviations u.bytes i.rest _ i.good.object.good alone
       ∙ ap (λ (s : List ℕ). mapped object_word (unit_stated big s)) (sym (info_is ∙ i.is))
 
@@ -157,7 +150,7 @@ module _ (b p : List ℕ) (a : Accepted b p) (h : Bytes b) (o : Object) (os : Li
     abbrev file : List ℕ
     file = file_bytes big machine ss
 
-    opened : (k : Package) × (package_of p ≡ pass k) × (k.encoding ≡ e) × (k.parts ≡ parts)
+    opened : (k : Package) × (package_of p ≡ Ok k) × (k.encoding ≡ e) × (k.parts ≡ parts)
     opened =
         let r = opens b p a h in
         ⊎_elim
@@ -168,9 +161,9 @@ module _ (b p : List ℕ) (a : Accepted b p) (h : Bytes b) (o : Object) (os : Li
         some_objects : o ∷ os ≡ [] → ⊥
         some_objects z = let l = ap length z in omega arith
 
-    pub package_in_law : package_of p ≡ pass (package_in p)
+    pub package_in_law : package_of p ≡ Ok (package_in p)
     unfolding package_in
-    package_in_law = let r = opened in r.1 ∙ ap pass (sym (rw (package_in, r.1)))
+    package_in_law = let r = opened in r.1 ∙ ap Ok (sym (rw (package_in, r.1)))
 
     pub file_is : file_of p machine ≡ file
     unfolding file_of package_in encoding_of
@@ -180,10 +173,10 @@ module _ (b p : List ℕ) (a : Accepted b p) (h : Bytes b) (o : Object) (os : Li
         ap₂ (λ (d : Encoding) (ps : List Part). file_bytes d.big machine (sections_here p ps)) (ap (λ (k : Package). k.encoding) is ∙ r.2) (ap (λ (k : Package). k.parts) is ∙ r.3)
         ∙ ap (file_bytes big machine) sections_here_law
 
-    read_back : any stands_in_info (handed_in b) ≡ true → bundle_read file ≡ pass p
+    read_back : any stands_in_info (handed_in b) ≡ true → bundle_read file ≡ Ok p
     read_back t =
         let is = package_is b p a o os q in
-        file_read big machine (machine_fits machine m) ss writable o.word (word_stated t) (omega (arith, ap length is, package_most b p a o os q)) ∙ ap pass (sym is)
+        file_read big machine (machine_fits machine m) ss writable o.word (word_stated t) (omega (arith, ap length is, package_most b p a o os q)) ∙ ap Ok (sym is)
 
     there_and_back : any stands_in_info (handed_in b) ≡ true → ThereAndBack p machine
     unfolding elf_read answered
@@ -194,12 +187,11 @@ module _ (b p : List ℕ) (a : Accepted b p) (h : Bytes b) (o : Object) (os : Li
           written = λ n l. sym (written_for_is p machine n m) ∙ made_whole p machine n package_in_law (omega (arith, ap length file_is)) ∙ ap made file_is;
           no_room = λ n l. sym (written_for_is p machine n m) ∙ made_short p machine n package_in_law (omega (arith, ap length file_is));
           for_three = λ t n. sym (written_is p machine n t) ∙ written_for_is p machine n m;
-          read = λ n l. ap (λ (c : Check (List ℕ)). answered c n) back ∙ rw (answered, le-leb (length p) n l);
-          no_room_to_read = λ n l. ap (λ (c : Check (List ℕ)). answered c n) back ∙ rw (answered, lt-leb (length p) n l);
+          read = λ n l. ap (λ (c : Result (List ℕ) ℕ). answered c n) back ∙ rw (answered, le-leb (length p) n l);
+          no_room_to_read = λ n l. ap (λ (c : Result (List ℕ) ℕ). answered c n) back ∙ rw (answered, lt-leb (length p) n l);
         }
 
 pub round_trip : RoundTrip
-unfolding any
 round_trip b w o p machine h accepted t m =
     let a = packed_accepted b w o p accepted in
     ⊎_elim

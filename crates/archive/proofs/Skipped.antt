@@ -1,7 +1,5 @@
 -- What callers are told of the type units that were skipped, proved.
-use mathlib.Core.Path.{◌≡◌, refl}
-use mathlib.Core.List.{List}
-use Prim.Native.Nat.{ℕ}
+use Rattle.std.proofs.Common.{◌≡◌, refl, List, ℕ}
 use Rattle.package.specs.Filing.{repeat, namesake}
 use Rattle.package.specs.Pack.{Answer, refused, short, made, packed, counted, repeats, namesakes}
 use Rattle.package.proofs.Counting.{skipped_units}

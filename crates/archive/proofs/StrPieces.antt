@@ -1,17 +1,9 @@
 -- A str section cut after each zero byte is the table of strings that it was written from.
-use mathlib.Core.Path.{◌≡◌, refl, sym, ap, ◌∙◌}
-use mathlib.Core.Logic.{⊎_elim}
-use mathlib.Core.Bool.{true}
-use mathlib.Core.List.{List, [], ◌∷◌, ◌++◌, map, append_assoc}
-use Prim.Native.Nat.{ℕ, zero, suc, ◌<◌}
-use native.Mathlib.Nat.{not-suc-le-zero, le_of_suc-le-suc}
-use native.Mathlib.Omega.{arith}
-use lib.Dec.{eqb}
-use lib.ListN.{length, get_or, take, length-map, length-append}
-use lib.Seq.{take_at}
-use borrow.Author.Tests.{eqb-false, ne_eqb}
+use Rattle.std.proofs.Common.{◌≡◌, refl, sym, ap, ◌∙◌, ⊎_elim, true, List, [], ◌∷◌, ◌++◌, map, append_assoc, ℕ, zero, suc, ◌<◌, not-suc-le-zero, le_of_suc-le-suc, arith, eqb, length, get_or, take, length-append, take_at, ne_eqb}
+use lib.ListN.{length-map}
+use borrow.Author.Tests.{eqb-false}
 use Rattle.octets.specs.Lists.{same, has}
-use Rattle.octets.specs.Checked.{pass}
+use Rattle.std.specs.Prelude.{Ok}
 use Rattle.octets.proofs.Checks.{known, bind_pass, pass_inj, true_false}
 use Rattle.octets.proofs.Lists.{any_none_head, any_none_tail, same_eq, same_refl}
 use Rattle.octets.proofs.Elements.{at_any, any_at}
@@ -39,7 +31,7 @@ pieces_table (s ∷ table) e =
     ap pieces (str_of_cons s table ∙ append_assoc s (0 ∷ []) (str_of table)) ∙ pieces_ended s (str_of table) (each_head e) ∙ ap (λ (l : List (List ℕ)). ended s ∷ l) (pieces_table table (each_tail e))
 
 -- ---- no string used has a zero in it
-pub named_clean : (str : List ℕ) (os : List ℕ) (used : List (List ℕ)) → strings_at str os ≡ pass used → Every NoZero used
+pub named_clean : (str : List ℕ) (os : List ℕ) (used : List (List ℕ)) → strings_at str os ≡ Ok used → Every NoZero used
 unfolding strings_at
 named_clean str [] used e = subst_none (pass_inj e)
   where

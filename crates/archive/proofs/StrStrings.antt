@@ -1,15 +1,9 @@
 -- The str section of the package of an accepted bundle: the first uses, each once, and what the string lookup finds is among them.
-use mathlib.Core.Path.{◌≡◌, refl, sym, ap, ◌∙◌, subst}
-use mathlib.Core.Logic.{⊎_elim}
-use mathlib.Core.Bool.{true, false}
-use mathlib.Core.List.{List, [], ◌∷◌, map}
-use Prim.Native.Nat.{ℕ, ◌<◌}
-use native.Mathlib.Omega.{arith}
+use Rattle.std.proofs.Common.{◌≡◌, refl, sym, ap, ◌∙◌, subst, ⊎_elim, true, false, List, [], ◌∷◌, map, ℕ, ◌<◌, arith, length, get_or}
 use native.Mathlib.Decide.{dec_lt}
-use lib.ListN.{length, get_or}
 use Rattle.octets.specs.Octets.{part as bytes_at}
 use Rattle.octets.specs.Lists.{any}
-use Rattle.octets.specs.Checked.{pass}
+use Rattle.std.specs.Prelude.{Ok}
 use Rattle.octets.proofs.Checks.{known, pass_inj, then_pass}
 use Rattle.octets.proofs.Numbers.{Bytes}
 use Rattle.bundle.specs.Bundle.{Part, Object, bundle_of, first_part, body}
@@ -58,10 +52,10 @@ module _ (b p : List ℕ) (a : Accepted b p) (h : Bytes b) where
   unfolding filing_of filing_from first_word
   no_inputs q =
       let big = a.bundle.big in
-      let e : filing_from b big (first_word []) (λ c. 0) [] [] ≡ pass a.filing = ap (λ (l : List Object). filing_from b big (first_word l) (λ c. 0) [] l) (sym q) ∙ a.filed in
+      let e : filing_from b big (first_word []) (λ c. 0) [] [] ≡ Ok a.filing = ap (λ (l : List Object). filing_from b big (first_word l) (λ c. 0) [] l) (sym q) ∙ a.filed in
       ap (λ (f : Filing). f.inputs) (sym (pass_inj e))
 
-  str_read : (k : Package) → package_of p ≡ pass k → str_in p ≡ body p k.parts 11
+  str_read : (k : Package) → package_of p ≡ Ok k → str_in p ≡ body p k.parts 11
   unfolding str_in
   str_read k e = rw (str_in, e)
 

@@ -1,17 +1,9 @@
 -- The strings of a kept unit in the package: each entry's string, and no other entry.
-use mathlib.Core.Path.{◌≡◌, refl, sym, ap, ◌∙◌, subst}
-use mathlib.Core.Logic.{⊎_elim}
-use mathlib.Core.Bool.{true, false}
-use mathlib.Core.List.{List, [], ◌∷◌, ◌++◌}
-use mathlib.Core.Option.{Option, some, none}
-use Prim.Native.Nat.{ℕ, ◌+◌, ◌*◌, ◌-◌, ◌/◌, ◌<◌, ◌≤◌}
-use native.Mathlib.Nat.{mul_comm, zero-div}
-use native.Mathlib.Omega.{arith}
-use lib.Dec.{eqb, ltb}
-use lib.ListN.{length, get_or}
-use borrow.Author.Tests.{lt-ltb, le-ltb}
+use Rattle.std.proofs.Common.{◌≡◌, refl, sym, ap, ◌∙◌, subst, ⊎_elim, true, false, List, [], ◌∷◌, ◌++◌, ℕ, ◌+◌, ◌*◌, ◌-◌, ◌/◌, ◌<◌, ◌≤◌, mul_comm, arith, eqb, ltb, length, get_or, lt-ltb, le-ltb}
+use Rattle.std.specs.Prelude.{Option, Some, None, Result, Ok, Err}
+use native.Mathlib.Nat.{zero-div}
 use Rattle.octets.specs.Octets.{part as bytes_at, number_at}
-use Rattle.octets.specs.Checked.{Check, pass, refuse, ◌>>=◌}
+use Rattle.octets.specs.Checked.{◌>>=◌}
 use Rattle.octets.proofs.Checks.{passes, fails, then_pass, known}
 use Rattle.octets.proofs.Numbers.{Bytes, number_at_part}
 use Rattle.octets.proofs.Parts.{part_part, length_part}
@@ -47,13 +39,13 @@ start_of_law p ps c s r = rw r.is
 
 module _ (p : List ℕ) (k : Package) (v n : ℕ) (place : Place) where
   -- 25
-  pub no_entry : (place.size - entries_start v k.encoding) / k.encoding.width ≤ n → string_place p k v n place ≡ refuse 25
+  pub no_entry : (place.size - entries_start v k.encoding) / k.encoding.width ≤ n → string_place p k v n place ≡ Err 25
   unfolding string_place
   no_entry h = fails (ltb n ((place.size - entries_start v k.encoding) / k.encoding.width)) 25 _ (le-ltb n _ h)
 
   pub entry_named : (str string : List ℕ) (offset : ℕ) → n < (place.size - entries_start v k.encoding) / k.encoding.width → SectionIn p k.parts 11 str
       → number_at k.encoding.big k.encoding.width p (place.start + entries_start v k.encoding + n * k.encoding.width) ≡ offset
-      → string_at 26 str offset ≡ pass string → PlaceOf p (string_place p k v n place) string
+      → string_at 26 str offset ≡ Ok string → PlaceOf p (string_place p k v n place) string
   unfolding string_place
   entry_named str string offset h r e q =
       let w = string_at_is 26 str offset string q in
@@ -63,8 +55,8 @@ module _ (p : List ℕ) (k : Package) (v n : ℕ) (place : Place) where
             ∙ then_pass (string_at 26 (body p k.parts 11) (number_at k.encoding.big k.encoding.width p (place.start + entries_start v k.encoding + n * k.encoding.width))) _ string
             (ap (λ (s : List ℕ). string_at 26 s (number_at k.encoding.big k.encoding.width p (place.start + entries_start v k.encoding + n * k.encoding.width))) (body_is p k.parts 11 str r)
             ∙ ap (string_at 26 str) e ∙ q)
-            ∙ ap (λ (m : ℕ). pass (record { start = start_of (first_part k.parts 11) + m; size = length string })) e
-            ∙ ap (λ (m : ℕ). pass (record { start = m + offset; size = length string })) (start_of_law p k.parts 11 str r);
+            ∙ ap (λ (m : ℕ). Ok (record { start = start_of (first_part k.parts 11) + m; size = length string })) e
+            ∙ ap (λ (m : ℕ). Ok (record { start = m + offset; size = length string })) (start_of_law p k.parts 11 str r);
         holds = sym (part_part p r.lies.start (length str) offset (length string) (omega (arith, w.within)))
             ∙ ap (λ (s : List ℕ). bytes_at s offset (length string)) r.bytes ∙ w.bytes;
       }
@@ -112,27 +104,27 @@ module _ (b p : List ℕ) (a : Accepted b p) (h : Bytes b) (o : Object) (os : Li
       ∙ ap (λ (m : ℕ). (n - m) / encoding.width) (sym first)
       ∙ ap (λ (d : Encoding). (n - entries_start v k.encoding) / d.width) (sym e)
 
-  abbrev answer : ℕ → Check Place
+  abbrev answer : ℕ → Result Place ℕ
   answer n = part_place k index (length (rows_of xs t) + 1) 6 >>= string_place p k v n
 
   -- any part of the right length gives 25 behind its entries
   missing : (bytes : List ℕ) (n : ℕ) → length bytes ≡ length (contributed u 6) → length (entries_of_unit u) ≤ n
-      → PlaceOf p (part_place k index (length (rows_of xs t) + 1) 6) bytes → answer n ≡ refuse 25
+      → PlaceOf p (part_place k index (length (rows_of xs t) + 1) 6) bytes → answer n ≡ Err 25
   missing bytes n l m r =
       then_pass (part_place k index (length (rows_of xs t) + 1) 6) (string_place p k v n) (record { start = r.start; size = length bytes }) r.is
       ∙ no_entry p k v n (record { start = r.start; size = length bytes }) (rw (← count_is (length bytes) l) m)
 
-  pub no_other : (n : ℕ) → length (entries_of_unit u) ≤ n → answer n ≡ refuse 25
+  pub no_other : (n : ℕ) → length (entries_of_unit u) ≤ n → answer n ≡ Err 25
   no_other n m = from (u.contributions 6) refl
     where
-      from : (d : Option Contribution) → u.contributions 6 ≡ d → answer n ≡ refuse 25
-      from none r = missing [] n (ap length (sym (none_contributed u 6 r))) m (part_found [] (none_place b p a h o os q t i xs u ys stands own 6 not_home r))
-      from (some d) r =
+      from : (d : Option Contribution) → u.contributions 6 ≡ d → answer n ≡ Err 25
+      from None r = missing [] n (ap length (sym (none_contributed u 6 r))) m (part_found [] (none_place b p a h o os q t i xs u ys stands own 6 not_home r))
+      from (Some d) r =
           missing (bytes_at (given strings 6 u.input) d.offset d.size) n (given_length b p a h o os q t i xs u ys stands own 6 d r) m
           (part_found (bytes_at (given strings 6 u.input) d.offset d.size) (shared_place b p a h o os q t i xs u ys stands own 6 d not_home r))
 
   -- str is there where a string is found in it
-  str_there : (offset : ℕ) (string : List ℕ) → string_at 26 (str_of strings) offset ≡ pass string → SectionIn p k.parts 11 (str_of strings)
+  str_there : (offset : ℕ) (string : List ℕ) → string_at 26 (str_of strings) offset ≡ Ok string → SectionIn p k.parts 11 (str_of strings)
   str_there offset string s =
       let w = string_at_is 26 (str_of strings) offset string s in
       let e : bytes_in (section_list a.filing a.cu a.tu) 11 ≡ str_of strings = str_bytes a.filing a.cu a.tu in
@@ -158,7 +150,7 @@ module _ (b p : List ℕ) (a : Accepted b p) (h : Bytes b) (o : Object) (os : Li
       ∙ number_at_part encoding.big encoding.width (given strings 6 u.input) d.offset d.size at w
       ∙ ap (read (given strings 6 u.input)) near
 
-  named : (d : Contribution) (bytes : List ℕ) (n : ℕ) → u.contributions 6 ≡ some d → bytes ≡ bytes_at (given strings 6 u.input) d.offset d.size
+  named : (d : Contribution) (bytes : List ℕ) (n : ℕ) → u.contributions 6 ≡ Some d → bytes ≡ bytes_at (given strings 6 u.input) d.offset d.size
       → (place : PlaceOf p (part_place k index (length (rows_of xs t) + 1) 6) bytes) → length bytes ≡ length (contributed u 6) → n < length (entries_of_unit u)
       → (s : NamesString strings encoding u d n) → PlaceOf p (answer n) s.string
   unfolding lengths
@@ -168,27 +160,27 @@ module _ (b p : List ℕ) (a : Accepted b p) (h : Bytes b) (o : Object) (os : Li
       let offset = number_at encoding.big encoding.width (given strings 6 u.input) (d.offset + header_size encoding + encoding.width * n) in
       let there : Place = record { start = place.start; size = length bytes } in
       let few : n < (length bytes - entries_start v k.encoding) / k.encoding.width = rw (count_is (length bytes) long) at m in
-      subst (λ (c : Check Place). PlaceOf p c s.string) (sym (then_pass (part_place k index (length (rows_of xs t) + 1) 6) (string_place p k v n) there place.is))
+      subst (λ (c : Result Place ℕ). PlaceOf p c s.string) (sym (then_pass (part_place k index (length (rows_of xs t) + 1) 6) (string_place p k v n) there place.is))
       (entry_named p k v n there (str_of strings) s.string offset few (str_there offset s.string s.names)
       (number_is d place.start bytes n y size place.holds s.within) s.names)
 
   pub its_string : (n : ℕ) → n < length (entries_of_unit u)
-      → (string : List ℕ) × (string_at 9 (u.input.bytes 11) (get_or (entries_of_unit u) n 0) ≡ pass string) × PlaceOf p (answer n) string × (is_in strings string ≡ true)
+      → (string : List ℕ) × (string_at 9 (u.input.bytes 11) (get_or (entries_of_unit u) n 0) ≡ Ok string) × PlaceOf p (answer n) string × (is_in strings string ≡ true)
   its_string n m = from (u.contributions 6) refl
     where
       nothing_there : (d : ℕ) → d ≡ 0 → (d - header_size encoding) / encoding.width ≡ 0
       nothing_there d z = let y : d - header_size encoding ≡ 0 = omega arith in rw y (zero-div encoding.width)
 
       from : (d : Option Contribution) → u.contributions 6 ≡ d
-          → (string : List ℕ) × (string_at 9 (u.input.bytes 11) (get_or (entries_of_unit u) n 0) ≡ pass string) × PlaceOf p (answer n) string × (is_in strings string ≡ true)
-      from none r =
+          → (string : List ℕ) × (string_at 9 (u.input.bytes 11) (get_or (entries_of_unit u) n 0) ≡ Ok string) × PlaceOf p (answer n) string × (is_in strings string ≡ true)
+      from None r =
           absurd (omega (
             arith,
             m,
             ap length (entries_are encoding u (good b p a h o os q t i xs u ys stands own)) ∙ length_entries_in encoding (contributed u 6),
             nothing_there (length (contributed u 6)) (ap length (none_contributed u 6 r)),
           ))
-      from (some d) r =
+      from (Some d) r =
           let g = good b p a h o os q t i xs u ys stands own in
           let l = lies b p a h o os q t i xs u ys stands own in
           let short : length (str_of strings) ≤ 8_388_607 = rw (str_bytes a.filing a.cu a.tu) at (section_small b p a h 11) in

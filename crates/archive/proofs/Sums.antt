@@ -1,14 +1,6 @@
 -- The sum of looks of many questions for the package of an accepted bundle.
-use mathlib.Core.Path.{◌≡◌, refl}
-use mathlib.Core.Logic.{◌⊎◌, inl, inr, ⊎_elim}
-use mathlib.Core.Bool.{Bool, true, false}
-use mathlib.Core.List.{List, [], ◌∷◌}
-use Prim.Native.Nat.{ℕ, ◌+◌, ◌*◌, ◌≤◌, max}
-use native.Mathlib.Nat.{suc-mul}
-use native.Mathlib.Omega.{arith}
-use lib.Dec.{eqb}
-use lib.ListN.{length}
-use Rattle.octets.specs.Checked.{Check, pass, refuse}
+use Rattle.std.proofs.Common.{◌≡◌, refl, ◌⊎◌, inl, inr, ⊎_elim, Bool, true, false, List, [], ◌∷◌, ℕ, ◌+◌, ◌*◌, ◌≤◌, max, suc-mul, arith, eqb, length}
+use Rattle.std.specs.Prelude.{Result, Ok, Err}
 use Rattle.octets.proofs.Numbers.{Bytes}
 use Rattle.package.proofs.Accepted.{Accepted, packed_accepted}
 use Rattle.lookup.specs.Lookup.{Found, refused, absent, part, Package, package_of, index_for, looked_up}
@@ -33,9 +25,9 @@ units_most : (p : List ℕ) (table : ℕ) → units_of p table ≤ max (units_of
 unfolding units_of
 units_most p table = go (package_of p) refl
   where
-    go : (m : Check Package) → package_of p ≡ m → units_of p table ≤ max (units_of p 1) (units_of p 2)
-    go (refuse n) e = rw (units_of, e) (omega arith)
-    go (pass k) e = rw (units_of, e) (⊎_elim (λ f. rw f (omega arith)) (λ f. rw f (omega arith)) (for_table k table))
+    go : (m : Result Package ℕ) → package_of p ≡ m → units_of p table ≤ max (units_of p 1) (units_of p 2)
+    go (Err n) e = rw (units_of, e) (omega arith)
+    go (Ok k) e = rw (units_of, e) (⊎_elim (λ f. rw f (omega arith)) (λ f. rw f (omega arith)) (for_table k table))
 
 module _ (b p : List ℕ) (a : Accepted b p) (h : Bytes b) where
   one_few : (v : ℕ) (q : Question) → (numbered (asked p v q)).looks ≤ max (units_of p 1) (units_of p 2) + 1

@@ -1,14 +1,6 @@
 -- The package's own tables: missing where no unit was handed in for them, else with the slots that were placed.
-use mathlib.Core.Path.{◌≡◌, refl, sym, ap, ◌∙◌}
-use mathlib.Core.Logic.{⊎_elim}
-use mathlib.Core.Bool.{true, false}
-use mathlib.Core.List.{List, [], ◌∷◌}
-use mathlib.Core.Option.{Option, some, none}
-use Prim.Native.Nat.{ℕ, ◌<◌}
-use native.Mathlib.Omega.{arith}
-use lib.Dec.{eqb}
-use lib.ListN.{length}
-use borrow.Author.Tests.{eqb-true}
+use Rattle.std.proofs.Common.{◌≡◌, refl, sym, ap, ◌∙◌, ⊎_elim, true, false, List, [], ◌∷◌, ℕ, ◌<◌, arith, eqb, length, eqb-true}
+use Rattle.std.specs.Prelude.{Option, Some, None}
 use Rattle.octets.specs.Lists.{any, has}
 use Rattle.octets.proofs.Checks.{true_false, known, not_left}
 use Rattle.octets.proofs.Lists.{any_cons, any_stops}
@@ -33,7 +25,7 @@ use Rattle.archive.proofs.Absences.{opens, rows_have, no_rows}
 -- ---- units for a table
 -- one under an identity is for the table
 under_for : (t x : ℕ) (us : List Filed) → any (is_under t x) us ≡ true → any (is_for t) us ≡ true
-unfolding any is_under is_for
+unfolding is_under is_for
 under_for t x [] e = absurd (true_false e refl)
 under_for t x (u ∷ us) e = ⊎_elim
     (λ (h : is_for t u ≡ true). any_stops (is_for t) u us h)
@@ -42,7 +34,7 @@ under_for t x (u ∷ us) e = ⊎_elim
 
 -- and one for the table is under its identity
 for_under : (t : ℕ) (us : List Filed) → any (is_for t) us ≡ true → (x : ℕ) × (any (is_under t x) us ≡ true)
-unfolding any is_for
+unfolding is_for
 for_under t [] e = absurd (true_false e refl)
 for_under t (u ∷ us) e = ⊎_elim
     (λ (h : is_for t u ≡ true). (u.identity, any_stops (is_under t u.identity) u us (under_own t u.identity u (eqb-true u.table t h) refl)))
@@ -52,7 +44,7 @@ for_under t (u ∷ us) e = ⊎_elim
     later : (x : ℕ) → any (is_under t x) us ≡ true → any (is_under t x) (u ∷ us) ≡ true
     later x g = ⊎_elim (λ h. any_stops (is_under t x) u us h) (λ h. any_cons (is_under t x) u us h ∙ g) (known (is_under t x u))
 
-some_none : {P : Type 0} (i : Index) → some i ≡ none → P
+some_none : {P : Type 0} (i : Index) → Some i ≡ None → P
 some_none i e = let z : ◌≡◌ {A = ℕ} 0 1 = cc in absurd (omega arith)
 
 module _ (b p : List ℕ) (a : Accepted b p) (h : Bytes b) where
@@ -71,8 +63,8 @@ module _ (b p : List ℕ) (a : Accepted b p) (h : Bytes b) where
 
   table_read : (t : ℕ) (o : Option Index) → Table a t o → TableRead b t o
   unfolding written
-  table_read t none (empty z) = record { missing = ((λ _. none_for t z), (λ _. refl)); slots = λ i e. some_none i (sym e) }
-  table_read t (some j) (full n i) = record {
+  table_read t None (empty z) = record { missing = ((λ _. none_for t z), (λ _. refl)); slots = λ i e. some_none i (sym e) }
+  table_read t (Some j) (full n i) = record {
     missing = ((λ e. some_none j e), (λ e. absurd (true_false (some_for t (rows_in a t) refl n) e)));
     slots = λ k e.
         let same : written (version_in a) (rows_in a t) i.slots ≡ k = cc in

@@ -1,15 +1,8 @@
 -- The parts of a kept unit in the package: its own bytes, its contributions, and nothing where it has none.
-use mathlib.Core.Path.{◌≡◌, refl, sym, ap, ◌∙◌, subst}
-use mathlib.Core.Logic.{⊎_elim}
-use mathlib.Core.Bool.{true, false}
-use mathlib.Core.List.{List, [], ◌∷◌, ◌++◌}
-use mathlib.Core.Option.{Option, some, none}
-use Prim.Native.Nat.{ℕ, ◌+◌, ◌<◌, ◌≤◌}
-use native.Mathlib.Omega.{arith}
-use lib.Dec.{eqb, leb}
-use lib.ListN.{length, get_or, take, length-append}
+use Rattle.std.proofs.Common.{◌≡◌, refl, sym, ap, ◌∙◌, subst, ⊎_elim, true, false, List, [], ◌∷◌, ◌++◌, ℕ, ◌+◌, ◌<◌, ◌≤◌, arith, eqb, leb, length, get_or, take, length-append, eqb-true, eq-eqb, ne_eqb, le-leb, leb-true}
+use Rattle.std.specs.Prelude.{Option, Some, None}
 use lib.Seq.{get_or-append_seam}
-use borrow.Author.Tests.{eqb-true, eqb-false, eq-eqb, ne_eqb, le-leb, leb-true}
+use borrow.Author.Tests.{eqb-false}
 use Rattle.octets.specs.Octets.{part as bytes_at}
 use Rattle.octets.specs.Lists.{has, all}
 use Rattle.octets.proofs.Checks.{known}
@@ -56,7 +49,7 @@ part_shared : (u : Filed) (c : ℕ) → (c ≡ u.home → ⊥) → 3 ≤ c → h
 unfolding handed_part
 part_shared u c e h = rw (handed_part, ne_eqb c u.home e, le-leb 3 c h)
 
-part_nothing : (u : Filed) (c : ℕ) → (c ≡ u.home → ⊥) → u.contributions c ≡ none → handed_part u c ≡ []
+part_nothing : (u : Filed) (c : ℕ) → (c ≡ u.home → ⊥) → u.contributions c ≡ None → handed_part u c ≡ []
 unfolding handed_part
 part_nothing u c e h = ⊎_elim
     (λ (t : leb 3 c ≡ true). rw (handed_part, ne_eqb c u.home e, t) (none_contributed u c h))
@@ -64,7 +57,7 @@ part_nothing u c e h = ⊎_elim
     (known (leb 3 c))
 
 three : (c : ℕ) → has shared c ≡ true → 3 ≤ c
-unfolding shared all
+unfolding shared
 three c h = leb-true 3 c (all_has (leb 3) shared c refl h)
 
 -- ---- a unit that stands among the kept ones
@@ -121,7 +114,7 @@ module _ (b p : List ℕ) (a : Accepted b p) (h : Bytes b) (o : Object) (os : Li
       (place_own b p a h o os q t i row_of_unit row_within u.home d (row_cell u.home ∙ cell_home u at))
 
   -- a contribution
-  pub shared_place : (c : ℕ) (d : Contribution) → (c ≡ u.home → ⊥) → u.contributions c ≡ some d → Lying c (bytes_at (given strings c u.input) d.offset d.size)
+  pub shared_place : (c : ℕ) (d : Contribution) → (c ≡ u.home → ⊥) → u.contributions c ≡ Some d → Lying c (bytes_at (given strings c u.input) d.offset d.size)
   unfolding lengths
   shared_place c d n r =
       let at = behind_all nothing_before xs u.home in
@@ -138,10 +131,10 @@ module _ (b p : List ℕ) (a : Accepted b p) (h : Bytes b) (o : Object) (os : Li
       (place_own b p a h o os q t i row_of_unit row_within c e (row_cell c ∙ cell_some u at c d n r))
 
   -- nothing
-  pub none_place : (c : ℕ) → (c ≡ u.home → ⊥) → u.contributions c ≡ none → Lying c []
+  pub none_place : (c : ℕ) → (c ≡ u.home → ⊥) → u.contributions c ≡ None → Lying c []
   none_place c n r = place_not b p a h o os q t i row_of_unit row_within c (row_cell c ∙ cell_none u (behind_all nothing_before xs u.home) c n r)
 
-  pub given_length : (c : ℕ) (d : Contribution) → u.contributions c ≡ some d → length (bytes_at (given strings c u.input) d.offset d.size) ≡ length (contributed u c)
+  pub given_length : (c : ℕ) (d : Contribution) → u.contributions c ≡ Some d → length (bytes_at (given strings c u.input) d.offset d.size) ≡ length (contributed u c)
   unfolding lengths
   given_length c d r =
       let k = (good.contributes c d r).0 in
@@ -159,12 +152,12 @@ module _ (b p : List ℕ) (a : Accepted b p) (h : Bytes b) (o : Object) (os : Li
     pub header : c ≡ 6 → take (header_size u.input.encoding) bytes ≡ take (header_size u.input.encoding) (handed_part u c)
 
   -- the header of what it contributes of str_offsets
-  shared_header : (c : ℕ) (d : Contribution) → c ≡ 6 → u.contributions c ≡ some d
+  shared_header : (c : ℕ) (d : Contribution) → c ≡ 6 → u.contributions c ≡ Some d
       → take (header_size u.input.encoding) (bytes_at (given strings c u.input) d.offset d.size) ≡ take (header_size u.input.encoding) (bytes_at (u.input.bytes c) d.offset d.size)
   shared_header c d z =
-      subst (λ (k : ℕ). u.contributions k ≡ some d → take (header_size u.input.encoding) (bytes_at (given strings k u.input) d.offset d.size) ≡ take (header_size u.input.encoding) (bytes_at (u.input.bytes k) d.offset d.size))
+      subst (λ (k : ℕ). u.contributions k ≡ Some d → take (header_size u.input.encoding) (bytes_at (given strings k u.input) d.offset d.size) ≡ take (header_size u.input.encoding) (bytes_at (u.input.bytes k) d.offset d.size))
       (sym z)
-      (subst (λ (e : Encoding). u.contributions 6 ≡ some d → take (header_size e) (bytes_at (given strings 6 u.input) d.offset d.size) ≡ take (header_size e) (bytes_at (u.input.bytes 6) d.offset d.size))
+      (subst (λ (e : Encoding). u.contributions 6 ≡ Some d → take (header_size e) (bytes_at (given strings 6 u.input) d.offset d.size) ≡ take (header_size e) (bytes_at (u.input.bytes 6) d.offset d.size))
       (sym good.object.encoded)
       (header_kept (encoding_in b p a h) strings u good (each_middle xs u ys (subst (Every Pieced) stands (kept_pieced b p a))) d))
 
@@ -177,7 +170,7 @@ module _ (b p : List ℕ) (a : Accepted b p) (h : Bytes b) (o : Object) (os : Li
       (known (eqb c u.home))
     where
       from : (c ≡ u.home → ⊥) → (d : Option Contribution) → u.contributions c ≡ d → AtCode c
-      from n (some d) r =
+      from n (Some d) r =
           let same = part_shared u c n (three c (good.contributes c d r).0.is_shared) in
           record {
             bytes = bytes_at (given strings c u.input) d.offset d.size;
@@ -186,4 +179,4 @@ module _ (b p : List ℕ) (a : Accepted b p) (h : Bytes b) (o : Object) (os : Li
             handed = λ m. ap (λ (l : List ℕ). bytes_at l d.offset d.size) (given_bytes strings c u.input m) ∙ sym (part_contributed u c d r) ∙ sym same;
             header = λ m. shared_header c d m r ∙ ap (take (header_size u.input.encoding)) (sym (part_contributed u c d r) ∙ sym same);
           }
-      from n none r = record { bytes = []; place = none_place c n r; long = ap length (sym (part_nothing u c n r)); handed = λ m. sym (part_nothing u c n r); header = λ m. ap (take (header_size u.input.encoding)) (sym (part_nothing u c n r)) }
+      from n None r = record { bytes = []; place = none_place c n r; long = ap length (sym (part_nothing u c n r)); handed = λ m. sym (part_nothing u c n r); header = λ m. ap (take (header_size u.input.encoding)) (sym (part_nothing u c n r)) }

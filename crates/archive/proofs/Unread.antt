@@ -1,19 +1,10 @@
 -- Without a unit in info a package's file is refused by 33: the round trip needs its premise.
-use mathlib.Core.Path.{◌≡◌, refl, sym, ap, ◌∙◌}
-use mathlib.Core.Logic.{⊎_elim}
-use mathlib.Core.Bool.{Bool, true, false, ◌||◌}
-use mathlib.Core.List.{List, [], ◌∷◌}
-use mathlib.Core.Option.{none}
-use Prim.Native.Nat.{ℕ}
+use Rattle.std.proofs.Common.{◌≡◌, refl, sym, ap, ◌∙◌, ⊎_elim, Bool, true, false, ◌||◌, List, [], ◌∷◌, ℕ, arith, eqb, length, eqb-true}
+use Rattle.std.specs.Prelude.{None, Result, Ok, Err}
 use native.Mathlib.Decide.{dec_le}
-use native.Mathlib.Omega.{arith}
-use lib.Dec.{eqb}
-use lib.ListN.{length}
-use borrow.Author.Tests.{eqb-true}
 use Rattle.numbers.specs.Sections.{info_code}
 use Rattle.numbers.specs.Refusals.{no_unit}
 use Rattle.octets.specs.Lists.{joined, any, those}
-use Rattle.octets.specs.Checked.{Check, pass, refuse}
 use Rattle.octets.proofs.Checks.{known, or_cases}
 use Rattle.octets.proofs.Lists.{any_none_head, any_none_tail}
 use Rattle.octets.proofs.Numbers.{Bytes}
@@ -46,7 +37,7 @@ each_none f [] e = nothing
 each_none f (x ∷ xs) e = also (any_none_head f x xs e) (each_none f xs (any_none_tail f x xs e))
 
 no_info : (us : List Filed) → Every (λ u. stands_in_info u ≡ false) us → unit_bytes us info_code ≡ []
-no_info [] e = unfold unit_bytes those joined in refl
+no_info [] e = unfold unit_bytes in refl
 no_info (u ∷ us) (also z e) = unit_later u us info_code (stands_not u z) ∙ no_info us e
 
 -- ---- a file that is made
@@ -79,7 +70,7 @@ by_any p machine n f e =
     record { good = g; is = written_for_is p machine n g ∙ e }
 
 module _ (p : List ℕ) (machine n : ℕ) (f : List ℕ) (w : Written p machine n f) where
-  made_is : package_of p ≡ pass (package_in p) → f ≡ file_of p machine
+  made_is : package_of p ≡ Ok (package_in p) → f ≡ file_of p machine
   made_is is = elim (dec_le (length (file_of p machine)) n) [
     | yes h ↦ let z = sym w.is ∙ made_whole p machine n is h in same z
     | no h ↦ other _ f (sym (made_short p machine n is (omega arith)) ∙ w.is)
@@ -90,18 +81,18 @@ module _ (p : List ℕ) (machine n : ℕ) (f : List ℕ) (w : Written p machine 
 
   -- ---- without objects
   module _ (b : List ℕ) (a : Accepted b p) (q : a.bundle.objects ≡ []) where
-    nothing_in : package_of p ≡ pass (package_in p)
+    nothing_in : package_of p ≡ Ok (package_in p)
     unfolding package_in
-    nothing_in = let r = nothing_read b p a q in r ∙ ap pass (sym (rw (package_in, r)))
+    nothing_in = let r = nothing_read b p a q in r ∙ ap Ok (sym (rw (package_in, r)))
 
     no_sections : file_of p machine ≡ file_bytes a.bundle.big machine []
-    unfolding file_of package_in encoding_of sections_here count parts_of those codes
+    unfolding file_of package_in encoding_of sections_here count parts_of codes
     no_sections =
-        let k : Package = record { encoding = encoding_of a.bundle.big 0; parts = []; cu_index = none; tu_index = none } in
+        let k : Package = record { encoding = encoding_of a.bundle.big 0; parts = []; cu_index = None; tu_index = None } in
         let is : package_in p ≡ k = rw (package_in, nothing_read b p a q) in
         ap (λ (x : Package). file_bytes x.encoding.big machine (sections_here p x.parts)) is
 
-    none_unread : bundle_read f ≡ refuse no_unit
+    none_unread : bundle_read f ≡ Err no_unit
     unfolding bytes_in
     none_unread =
         ap bundle_read (made_is nothing_in ∙ no_sections)
@@ -109,7 +100,7 @@ module _ (p : List ℕ) (machine n : ℕ) (f : List ℕ) (w : Written p machine 
 
   -- ---- with objects
   module _ (b : List ℕ) (a : Accepted b p) (h : Bytes b) (o : Object) (os : List Object) (q : a.bundle.objects ≡ o ∷ os) (t : any stands_in_info (handed_in b) ≡ false) where
-    unread : bundle_read f ≡ refuse no_unit
+    unread : bundle_read f ≡ Err no_unit
     unread =
         let us = a.filing.units in
         let none = each_kept us (each_none stands_in_info us (ap (any stands_in_info) (sym (handed_in_law b p a)) ∙ t)) in
@@ -121,7 +112,7 @@ unfolding elf_read answered
 else_refused b w o p machine n m f h accepted t e =
     let a = packed_accepted b w o p accepted in
     let k = ⊎_elim (by_three p machine n f) (by_any p machine n f) e in
-    ap (λ (c : Check (List ℕ)). answered c m)
+    ap (λ (c : Result (List ℕ) ℕ). answered c m)
     (⊎_elim
     (λ (z : a.bundle.objects ≡ []). none_unread p machine n f k b a z)
     (λ (z : (x : Object) × (xs : List Object) × (a.bundle.objects ≡ x ∷ xs)). unread p machine n f k b a h z.0 z.1 z.2 t)

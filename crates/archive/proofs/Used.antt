@@ -1,12 +1,7 @@
 -- Every clause of the theorem, used.
-use mathlib.Core.Path.{◌≡◌, refl, sym, ap, ◌∙◌, subst}
-use mathlib.Core.Logic.{◌⊎◌, inl, inr}
-use mathlib.Core.List.{List, [], ◌∷◌}
-use mathlib.Core.Option.{some}
-use Prim.Native.Nat.{ℕ, ◌≤◌}
-use native.Mathlib.Omega.{arith}
+use Rattle.std.proofs.Common.{◌≡◌, refl, sym, ap, ◌∙◌, subst, ◌⊎◌, inl, inr, List, [], ◌∷◌, ℕ, ◌≤◌, arith, length}
+use Rattle.std.specs.Prelude.{Some}
 use native.Mathlib.Decide.{ℕ_discrete}
-use lib.ListN.{length}
 use Rattle.octets.specs.Octets.{part as bytes_at}
 use Rattle.octets.proofs.Checks.{pass_inj}
 use Rattle.lookup.specs.Lookup.{absent, part, looked_up, string_found}
@@ -61,7 +56,7 @@ used = record {
   every_unit = (reading, computed.reads, r.every_unit_is_handed_in reading computed.reads);
   a_unit = r.each_is_a_unit (compilation ∷ first_type ∷ []) [] same_type computed.handed;
   its_whole_section = contributes.whole computed.no_index 3 (record { from = omega arith; to = omega arith }) some_abbrev
-      ∙ ap (λ (n : ℕ). some (record { offset = 0; size = n })) (ap length computed.abbrev_bytes);
+      ∙ ap (λ (n : ℕ). Some (record { offset = 0; size = n })) (ap length computed.abbrev_bytes);
   nothing_of_line = contributes.nothing 4 (record { from = omega arith; to = omega arith }) computed.no_line;
   by_a_row = by_a_row_law;
   kept_type = r.kept_or_skipped_type (compilation ∷ []) (same_type ∷ []) first_type computed.handed;

@@ -1,11 +1,6 @@
 -- The verdict on a package, by what packing answers and what comparing tells.
-use mathlib.Core.Path.{◌≡◌, refl, sym, ap, ◌∙◌, subst}
-use mathlib.Core.Logic.{◌⊎◌, inl, inr, ⊎_elim}
-use mathlib.Core.List.{List}
-use Prim.Native.Nat.{ℕ}
-use native.Mathlib.Omega.{arith}
+use Rattle.std.proofs.Common.{◌≡◌, refl, sym, ap, ◌∙◌, subst, ◌⊎◌, inl, inr, ⊎_elim, List, ℕ, arith}
 use Rattle.std.specs.Prelude.{Err}
-use Rattle.octets.specs.Checked.{refuse}
 use Rattle.answers.specs.Outcome.{outcome_of, outcome_as}
 use Rattle.answers.specs.Written.{written_as}
 use Rattle.answers.specs.declared.Unwritten.{Unwritten}
@@ -31,11 +26,11 @@ use Rattle.archive.proofs.Verified.{verified_answers, verified_own}
 pub own_opens : (b : List ℕ) (w o : ℕ) (q : List ℕ) → AreBytes b → packed b w o ≡ made q → Opens q
 own_opens b w o q h e = let op = opens b q (packed_accepted b w o q e) h in (op.k, op.read)
 
-pub no_refusal : {P : Type 0} (q : List ℕ) (n : ℕ) → Opens q → refuse n ≡ opened (package_of q) → P
+pub no_refusal : {P : Type 0} (q : List ℕ) (n : ℕ) → Opens q → Err n ≡ opened (package_of q) → P
 no_refusal q n o e = absurd (let f = sym o.1 ∙ closed q n e in let z : ◌≡◌ {A = ℕ} 0 1 = cc in omega arith)
 
-pub no_package : (p : List ℕ) (n : ℕ) → refuse n ≡ opened (package_of p) → package_of p ≡ refuse 21
-no_package p n e = closed p n e ∙ ap refuse (package_refused p n (closed p n e))
+pub no_package : (p : List ℕ) (n : ℕ) → Err n ≡ opened (package_of p) → package_of p ≡ Err 21
+no_package p n e = closed p n e ∙ ap Err (package_refused p n (closed p n e))
 
 -- ---- a package was made
 module _ (b : List ℕ) (w o : ℕ) (p : List ℕ) (v : ℕ) (q : List ℕ) (e : packed b w o ≡ made q) where

@@ -1,15 +1,6 @@
 -- A package that answers as the package of a bundle does answers with what was handed in.
-use mathlib.Core.Path.{◌≡◌, refl, sym, ap, ◌∙◌, subst}
-use mathlib.Core.Logic.{◌⊎◌, ⊎_elim}
-use mathlib.Core.Bool.{true, false, ◌||◌, ◌&&◌}
-use mathlib.Core.List.{List, []}
-use mathlib.Core.Option.{some}
-use Prim.Native.Nat.{ℕ, ◌+◌, ◌-◌, ◌/◌, ◌<◌, ◌≤◌}
-use lib.Dec.{eqb, leb}
-use native.Mathlib.Omega.{arith}
-use lib.ListN.{length}
-use borrow.Author.Tests.{eqb-true, ltb-true, ne_eqb}
-use Rattle.std.specs.Prelude.{Some, Err, if◌then◌else◌}
+use Rattle.std.proofs.Common.{◌≡◌, refl, sym, ap, ◌∙◌, subst, ◌⊎◌, ⊎_elim, true, false, ◌||◌, ◌&&◌, List, [], ℕ, ◌+◌, ◌-◌, ◌/◌, ◌<◌, ◌≤◌, eqb, leb, arith, length, eqb-true, ltb-true, ne_eqb}
+use Rattle.std.specs.Prelude.{Some, Err, if◌then◌else◌, Result, Ok}
 use Rattle.numbers.specs.Refused.{number_of}
 use Rattle.answers.specs.Outcome as outcome
 use Rattle.answers.specs.Outcome.{outcome_of, outcome_as}
@@ -18,7 +9,6 @@ use Rattle.answers.specs.declared.Unwritten.TheVariants.{Refused, Short}
 use Rattle.numbers.specs.Tables.{dwarf4, dwarf5}
 use Rattle.octets.specs.Octets.{part as bytes_at}
 use Rattle.octets.specs.Lists.{same}
-use Rattle.octets.specs.Checked.{Check, pass, refuse}
 use Rattle.octets.proofs.Checks.{pass_inj, true_false, known, require_pass, and_left, and_right, or_cases}
 use Rattle.octets.proofs.Lists.{same_eq, same_both}
 use Rattle.octets.proofs.Numbers.{Bytes}
@@ -52,11 +42,11 @@ use Rattle.archive.proofs.Firsts.{s as stands}
 use Rattle.archive.proofs.FromBundleToAnswer.{from_bundle_to_answer}
 
 -- ---- the package that was read is the one that the code has
-package_is : (q : List ℕ) (k : Package) → package_of q ≡ pass k → package_in q ≡ k
+package_is : (q : List ℕ) (k : Package) → package_of q ≡ Ok k → package_in q ≡ k
 unfolding package_in
 package_is q k e = rw (package_in, e)
 
-own_encoding : (b : List ℕ) (w o : ℕ) (q : List ℕ) → AreBytes b → packed b w o ≡ made q → (k : Bundle) → bundle_of b ≡ pass k → (k.objects ≡ [] → ⊥)
+own_encoding : (b : List ℕ) (w o : ℕ) (q : List ℕ) → AreBytes b → packed b w o ≡ made q → (k : Bundle) → bundle_of b ≡ Ok k → (k.objects ≡ [] → ⊥)
     → coded (package_in q).encoding ≡ coded (encoding_of k.big (first_word k.objects))
 own_encoding b w o q h e k f any =
     let a = packed_accepted b w o q e in
@@ -84,7 +74,7 @@ module _ (p q : List ℕ) (v : ℕ) (g : Agrees p q v) (table x : ℕ) where
       let w : Well i = record { big = k.encoding.big; bytes = body q k.parts (index_code table); is = index_known q k m.opened table i m.there } in
       let row = found_row i w x m.slot looks m.ends in
       let end = search_used i.rows i.identities x m.slot looks m.ends in
-      let here : index_for (package_in q) table ≡ some i = rw (package_is q k m.opened) m.there in
+      let here : index_for (package_in q) table ≡ Some i = rw (package_is q k m.opened) m.there in
       subst (UnitAgrees p q v table) end.identity (table_agrees t i here m.slot row.inside end.used)
 
 -- ---- the same bytes at both places
@@ -170,10 +160,10 @@ module _ (q : List ℕ) (v table x k start size looks : ℕ) (e : looked_up q v 
       good : encoding_good (package_in q).encoding ≡ true
       good = strung_encoding q v table x k here held (record { start = start; size = size }) refl
 
-      go : (r : Check Place) → string_place q (package_in q) v k (record { start = start; size = size }) ≡ r → k < size / 4
-      go (refuse n) g = absurd (let z : refused n ≡ part a m l = strung_failed q v table x k here held (record { start = start; size = size }) refl n (sym g) ∙ f in
+      go : (r : Result Place ℕ) → string_place q (package_in q) v k (record { start = start; size = size }) ≡ r → k < size / 4
+      go (Err n) g = absurd (let z : refused n ≡ part a m l = strung_failed q v table x k here held (record { start = start; size = size }) refl n (sym g) ∙ f in
           let y : ◌≡◌ {A = ℕ} 0 1 = cc in omega arith)
-      go (pass s) g =
+      go (Ok s) g =
           let (t, u) = require_pass _ _ _ _ g in
           let w = (package_in q).encoding.width in
           widths w (size - entries_start v (package_in q).encoding) (good_width (package_in q).encoding good) (ltb-true _ _ t) (omega arith)

@@ -1,10 +1,8 @@
 -- The laws told of small inputs, so that each of their premises is met somewhere.
-use Rattle.std.specs.Prelude.{◌≡◌, false, List, [], ◌∷◌, ◌++◌, ℕ, ◌+◌, ◌*◌, ◌-◌, ◌/◌, ◌≤◌, ◌<◌, max, length, get_or}
-use Rattle.std.proofs.Math.Option.{none}
+use Rattle.std.specs.Prelude.{◌≡◌, false, List, [], ◌∷◌, ◌++◌, ℕ, ◌+◌, ◌*◌, ◌-◌, ◌/◌, ◌≤◌, ◌<◌, max, length, get_or, None, Ok, Err}
 use Rattle.numbers.specs.Refusals.{no_unit, file_short, bad_parts}
 use Rattle.numbers.specs.Tables.{compilation_table, type_table}
 use Rattle.octets.specs.Octets.{numbers_of, zeros}
-use Rattle.octets.specs.Checked.{pass, refuse}
 use Rattle.bundle.specs.Written.{Section}
 use Rattle.index.specs.Index.{Contribution}
 use Rattle.index.specs.Probing.{first_slot, stride, free_from}
@@ -102,9 +100,9 @@ pub record OfRules : Type 0 where
   pub last_slot : (n : ℕ) × (n < 4) × (slot_after 9 4 n ≡ 3)
   pub second_free : ◌≡◌ {A = ℕ} (get_or (1 ∷ 0 ∷ []) (free_from 2 (1 ∷ 0 ∷ []) (first_slot 8 2) (stride 8 2)) 0) 0
   -- no part is named: the empty section passes, a byte is in none
-  pub no_part : NoneOfThree (parts_named none none) 0
-  pub passes : (ts : List Contribution) × (tiles (parts_named none none) [] ≡ pass ts)
-  pub a_byte : (n : ℕ) → tiles (parts_named none none) (0 ∷ []) ≡ refuse n → n ≡ bad_parts
+  pub no_part : NoneOfThree (parts_named None None) 0
+  pub passes : (ts : List Contribution) × (tiles (parts_named None None) [] ≡ Ok ts)
+  pub a_byte : (n : ℕ) → tiles (parts_named None None) (0 ∷ []) ≡ Err n → n ≡ bad_parts
 
 pub record Applied : Type 0 where
   pub every_clause : EveryClauseUsed
@@ -113,6 +111,6 @@ pub record Applied : Type 0 where
   pub files : OfFiles
   pub rules : OfRules
   pub sheet : sheet_lines first_package
-      ≡ pass (lines_found first_package 5 compilation_table letter_c (identities_of first compilation_table) ++ lines_found first_package 5 type_table letter_t (identities_of first type_table))
+      ≡ Ok (lines_found first_package 5 compilation_table letter_c (identities_of first compilation_table) ++ lines_found first_package 5 type_table letter_t (identities_of first type_table))
   pub looks : looks_in answer ≤ length question / 3 * (max (units_of first_package compilation_table) (units_of first_package type_table) + 1)
   pub two_sittings : packed together 400 172 ≡ made both

@@ -1,6 +1,5 @@
 -- The claim on files, used of two small ones: what it says there, worked out.
-use Rattle.std.specs.Prelude.{◌≡◌, ◌⊎◌, false, List, [], ◌∷◌, ℕ, ◌+◌, if◌then◌else◌}
-use Rattle.std.proofs.Math.Option.{Option, some, none}
+use Rattle.std.specs.Prelude.{◌≡◌, ◌⊎◌, false, List, [], ◌∷◌, ℕ, ◌+◌, if◌then◌else◌, Option, Some, None}
 use Rattle.octets.specs.Octets.{numbers_of, part as bytes_at}
 use Rattle.octets.specs.Lists.{any, has}
 use Rattle.bundle.specs.Bundle.{Part, body}
@@ -90,8 +89,8 @@ package_object = record {
   bytes = body all_joined package_parts;
   units = unit_sections all_joined package_parts;
   pieces = [];
-  cu_index = some package_index;
-  tu_index = none;
+  cu_index = Some package_index;
+  tu_index = None;
 }
 
 abbrev other_parts : List Part
@@ -103,8 +102,8 @@ second_object = record {
   bytes = body all_joined other_parts;
   units = unit_sections all_joined other_parts;
   pieces = record { bytes = bytes_at all_joined 220 16; used = (98 ∷ []) ∷ (97 ∷ []) ∷ [] } ∷ [];
-  cu_index = none;
-  tu_index = none;
+  cu_index = None;
+  tu_index = None;
 }
 
 -- that of the package, which has a row
@@ -115,7 +114,7 @@ first_unit = record {
   home = 1;
   bytes = bytes_at all_joined 12 20;
   input = package_object;
-  contributions = λ s. if has (needed_codes (lengths package_object)) s then cell_of package_index 1 s else none;
+  contributions = λ s. if has (needed_codes (lengths package_object)) s then cell_of package_index 1 s else None;
   bases = λ c. 0;
 }
 
@@ -138,10 +137,10 @@ abbrev pub type_unit : Filed
 type_unit = of_other 2 7 136 24 (whole_contributions (lengths second_object))
 
 abbrev pub repeated : Filed
-repeated = of_other 2 7 160 24 (λ c. none)
+repeated = of_other 2 7 160 24 (λ c. None)
 
 abbrev pub other_bytes : Filed
-other_bytes = of_other 2 7 184 24 (λ c. none)
+other_bytes = of_other 2 7 184 24 (λ c. None)
 
 abbrev pub their_units : List Filed
 their_units = first_unit ∷ second_unit ∷ type_unit ∷ repeated ∷ other_bytes ∷ []

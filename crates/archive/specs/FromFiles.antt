@@ -1,9 +1,8 @@
 -- The claim, from a list of files to the answer. Each file is taken by itself, as its own reader gives it: nothing is said of the bundle that the files are joined to but
 -- that it was packed, or that a package was verified against it.
-use Rattle.std.specs.Prelude.{◌≡◌, ◌⊎◌, Bool, true, false, ◌||◌, List, [], ◌∷◌, ◌++◌, ℕ, ◌+◌, ◌%◌, length, ◌==◌, if◌then◌else◌}
+use Rattle.std.specs.Prelude.{◌≡◌, ◌⊎◌, Bool, true, false, ◌||◌, List, [], ◌∷◌, ◌++◌, ℕ, ◌+◌, ◌%◌, length, ◌==◌, if◌then◌else◌, Ok}
 use Rattle.numbers.specs.Tables.{compilation_table, type_table, dwarf5, index2, index5}
 use Rattle.octets.specs.Lists.{any}
-use Rattle.octets.specs.Checked.{pass}
 use Rattle.bundle.specs.Bundle.{Bundle, bundle_of}
 use Rattle.bundle.specs.Encoding.{encoding_of}
 use Rattle.bundle.specs.Written.{Sections}
@@ -25,9 +24,9 @@ use Rattle.archive.specs.declared.verifying.Verdict.{Verdict}
 -- these units are all of a file: object by object and section by section, all of info and types that its reader finds in it, in order
 pub record UnitsOfFile (f : List ℕ) (us : List Filed) : Type 0 where
   pub bundle : List ℕ
-  pub read : file_bundle f ≡ pass bundle
+  pub read : file_bundle f ≡ Ok bundle
   pub objects : Bundle
-  pub there : bundle_of bundle ≡ pass objects
+  pub there : bundle_of bundle ≡ Ok objects
   pub all_of_them : FillObjects bundle objects.big (first_word objects.objects) objects.objects us
 
 -- these are all of the files, one file's behind the other's
@@ -98,4 +97,4 @@ pub record FilesAnswered (fs : List (List ℕ)) (b : List ℕ) (w o : ℕ) : Typ
 -- the claim: of files that were joined to b, for any work and output
 abbrev pub FromFilesToAnswer : Type 0
 FromFilesToAnswer =
-    (f : List ℕ) (fs : List (List ℕ)) (b : List ℕ) (w o : ℕ) → AllBytes (f ∷ fs) → joined_all [] (f ∷ fs) ≡ pass b → FilesAnswered (f ∷ fs) b w o
+    (f : List ℕ) (fs : List (List ℕ)) (b : List ℕ) (w o : ℕ) → AllBytes (f ∷ fs) → joined_all [] (f ∷ fs) ≡ Ok b → FilesAnswered (f ∷ fs) b w o

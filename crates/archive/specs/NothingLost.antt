@@ -1,11 +1,10 @@
 -- Nothing is lost: what the sections of a bundle hold is in its package. b is a bundle that packing accepts, p its package. Of both the same is told:
 -- the bytes of all sections of a code, wherever they stand.
-use Rattle.std.specs.Prelude.{◌≡◌, ◌⊎◌, ◌==◌, true, List, [], ◌∷◌, ◌++◌, map, ℕ, ◌≤◌, length}
+use Rattle.std.specs.Prelude.{◌≡◌, ◌⊎◌, ◌==◌, true, List, [], ◌∷◌, ◌++◌, map, ℕ, ◌≤◌, length, Ok, Err}
 use Rattle.numbers.specs.Tables.{type_table}
 use Rattle.numbers.specs.Sections.{info_code, types_code, str_offsets_code, str_code, cu_index_code, tu_index_code}
 use Rattle.octets.specs.Octets.{part as bytes_at}
 use Rattle.octets.specs.Lists.{joined, those, any, has}
-use Rattle.octets.specs.Checked.{pass, refuse}
 use Rattle.bundle.specs.Bundle.{Object, Bundle, bundle_of, parts_of, count}
 use Rattle.package.specs.Filing.{Filed, is_under, kept}
 use Rattle.package.specs.Pack.{handed_in}
@@ -19,7 +18,7 @@ all_in code b (o ∷ os) = joined (map (λ s. bytes_at b s.start s.size) (parts_
 
 -- the bytes of those that a bundle holds
 unfoldable pub all_of : ℕ → List ℕ → List ℕ
-all_of code b = elim (bundle_of b) [ pass k ↦ all_in code b k.objects | refuse n ↦ [] ]
+all_of code b = elim (bundle_of b) [ Ok k ↦ all_in code b k.objects | Err n ↦ [] ]
 
 -- ---- shared sections
 -- all bytes are there, and no others
@@ -33,7 +32,7 @@ StrOffsetsInLength b p = length (all_of str_offsets_code p) ≡ length (all_of s
 -- str and the indexes are not joined: of each an object has one at most
 abbrev pub OneOfTheOthers : List ℕ → Type 0
 OneOfTheOthers b =
-    (k : Bundle) → bundle_of b ≡ pass k → (before behind : List Object) (o : Object) → k.objects ≡ before ++ (o ∷ behind)
+    (k : Bundle) → bundle_of b ≡ Ok k → (before behind : List Object) (o : Object) → k.objects ≡ before ++ (o ∷ behind)
     → (code : ℕ) → has (str_code ∷ cu_index_code ∷ tu_index_code ∷ []) code ≡ true → count o.parts code ≤ 1
 
 -- ---- units

@@ -1,9 +1,7 @@
 -- The sheet and the lookups say the same. b is a bundle that packing accepts, p its package.
-use Rattle.std.specs.Prelude.{◌≡◌, true, List, [], ◌++◌, map, ℕ, ◌-◌}
-use Rattle.std.proofs.Math.Option.{Option, some, none}
+use Rattle.std.specs.Prelude.{◌≡◌, true, List, [], ◌++◌, map, ℕ, ◌-◌, Option, Some, None, Ok}
 use Rattle.numbers.specs.Tables.{compilation_table, type_table}
 use Rattle.octets.specs.Lists.{joined}
-use Rattle.octets.specs.Checked.{pass}
 use Rattle.bundle.specs.Bundle.{first_part}
 use Rattle.index.specs.Columns.{columns_of}
 use Rattle.index.specs.Index.{Index}
@@ -15,8 +13,8 @@ use Rattle.archive.specs.Theorem.{is_index_version, identities_of, AreBytes}
 
 -- the sections of a table's columns, in the index's order
 unfoldable pub sections_in : Option Index → List ℕ
-sections_in (some i) = map (section_in (columns_of i.version)) i.codes
-sections_in none = []
+sections_in (Some i) = map (section_in (columns_of i.version)) i.codes
+sections_in None = []
 
 -- the line that an answer makes: the part's place is told from its section's start on
 unfoldable pub found_line : List ℕ → ℕ → ℕ → ℕ → Found → List ℕ
@@ -33,7 +31,7 @@ lines_found p v table letter identities =
 abbrev pub PaperAndProgram : List ℕ → List ℕ → Type 0
 PaperAndProgram b p =
     (v : ℕ) → is_index_version b v ≡ true
-    → sheet_lines p ≡ pass (lines_found p v compilation_table letter_c (identities_of b compilation_table) ++ lines_found p v type_table letter_t (identities_of b type_table))
+    → sheet_lines p ≡ Ok (lines_found p v compilation_table letter_c (identities_of b compilation_table) ++ lines_found p v type_table letter_t (identities_of b type_table))
 
 abbrev pub Paper : Type 0
 Paper = (b : List ℕ) (w o : ℕ) (p : List ℕ) → AreBytes b → packed b w o ≡ made p → PaperAndProgram b p

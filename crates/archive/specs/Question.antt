@@ -1,11 +1,10 @@
 -- The theorem for one question, as `pack_and_look_up` answers it (FORMAT 7.6): the answer is the lookup's, whatever is asked; and the clauses of `Theorem.antt` that speak
 -- of an answer, told of its numbers.
-use Rattle.std.specs.Prelude.{◌≡◌, ◌⊎◌, ◌↔◌, false, List, [], ℕ, ◌+◌, ◌≤◌, ◌<◌, length, slice_index, slice_index_or}
+use Rattle.std.specs.Prelude.{◌≡◌, ◌⊎◌, ◌↔◌, false, List, [], ℕ, ◌+◌, ◌≤◌, ◌<◌, length, slice_index, slice_index_or, Ok}
 use Rattle.numbers.specs.Sections.{str_offsets_code, str_code}
 use Rattle.numbers.specs.Refusals.{no_string, output_short, other_version, no_entry}
 use Rattle.octets.specs.Octets.{part as bytes_at}
 use Rattle.octets.specs.Lists.{any}
-use Rattle.octets.specs.Checked.{pass}
 use Rattle.strings.specs.Strings.{string_at, ended}
 use Rattle.package.specs.Filing.{Filed, is_under, entries_of_unit}
 use Rattle.package.specs.Pack.{Answer, refused, short, made, packed, handed_in}
@@ -61,7 +60,7 @@ pub record StringTold (b p : List ℕ) (v table x k : ℕ) (r : FromBundle) : Ty
   pub the_table : Asked b v table → TableIn b p table
   pub a_unit : (u : Filed) → IsFirst b table x u → IsUnit u
   pub its_strings : (u : Filed) → Asked b v table → IsFirst b table x u → k < length (entries_of_unit u)
-      → (string : List ℕ) × (string_at no_string (u.input.bytes str_code) (slice_index (entries_of_unit u) k) ≡ pass string) × Told p r (looks b table x) string
+      → (string : List ℕ) × (string_at no_string (u.input.bytes str_code) (slice_index (entries_of_unit u) k) ≡ Ok string) × Told p r (looks b table x) string
   pub no_other_string : (u : Filed) → Asked b v table → IsFirst b table x u → length (entries_of_unit u) ≤ k → r.code ≡ no_entry
   pub absent_is_absent : Asked b v table → any (is_under table x) (handed_in b) ≡ false → ToldAbsent r (looks b table x)
   pub absent_ends : Asked b v table → any (is_under table x) (handed_in b) ≡ false → EndsUnused b table x

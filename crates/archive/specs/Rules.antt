@@ -1,8 +1,6 @@
 -- Rules that the definitions keep, each as a user would say it. The definitions themselves are walks and sums; that they come to this is proved.
-use Rattle.std.specs.Prelude.{◌≡◌, ◌⊎◌, ◌↔◌, List, ◌∷◌, ◌++◌, ℕ, ◌+◌, ◌*◌, ◌^◌, ◌≤◌, ◌<◌, length, get_or}
-use Rattle.std.proofs.Math.Option.{Option}
+use Rattle.std.specs.Prelude.{◌≡◌, ◌⊎◌, ◌↔◌, List, ◌∷◌, ◌++◌, ℕ, ◌+◌, ◌*◌, ◌^◌, ◌≤◌, ◌<◌, length, get_or, Option, Ok, Err}
 use Rattle.numbers.specs.Refusals.{bad_parts}
-use Rattle.octets.specs.Checked.{pass, refuse}
 use Rattle.index.specs.Index.{Index, Contribution}
 use Rattle.index.specs.Probing.{first_slot, stride, slots_for, free_from}
 use Rattle.index.specs.Tiles.{named, tiles}
@@ -13,11 +11,11 @@ use Rattle.archive.specs.Theorem.{AreBytes, slot_after}
 
 -- ---- a file read: the bundle is one object that holds the wanted sections' bytes, unchanged and in the order of their headers, and no others
 abbrev pub FilesAreHeld : Type 0
-FilesAreHeld = (f b : List ℕ) → AreBytes f → bundle_read f ≡ pass b → Holds f b
+FilesAreHeld = (f b : List ℕ) → AreBytes f → bundle_read f ≡ Ok b → Holds f b
 
 -- the same of a file of 32 bits
 abbrev pub FilesOf32AreHeld : Type 0
-FilesOf32AreHeld = (f b : List ℕ) → AreBytes f → bundle32_read f ≡ pass b → Holds32 f b
+FilesOf32AreHeld = (f b : List ℕ) → AreBytes f → bundle32_read f ≡ Ok b → Holds32 f b
 
 -- ---- slots: of an index of n units, the least power of two of which twice is more than 3n, and never fewer than 2
 pub record LeastSlots (n : ℕ) : Type 0 where
@@ -55,8 +53,8 @@ abbrev pub parts_named : Option Index → Option Index → List Contribution
 parts_named cu tu = named cu ++ named tu
 
 pub record ExactlyThree (cs : List Contribution) (s : List ℕ) : Type 0 where
-  pub passes : ((ts : List Contribution) × (tiles cs s ≡ pass ts)) ↔ NoneOfThree cs (length s)
-  pub number : (n : ℕ) → tiles cs s ≡ refuse n → n ≡ bad_parts
+  pub passes : ((ts : List Contribution) × (tiles cs s ≡ Ok ts)) ↔ NoneOfThree cs (length s)
+  pub number : (n : ℕ) → tiles cs s ≡ Err n → n ≡ bad_parts
 
 abbrev pub ThreeCases : Type 0
 ThreeCases = (cu tu : Option Index) (s : List ℕ) → ExactlyThree (parts_named cu tu) s

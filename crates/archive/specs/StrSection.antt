@@ -1,7 +1,7 @@
 -- The str section of a package, as a reader holds it, cut after each zero byte.
-use Rattle.std.specs.Prelude.{List, [], ◌∷◌, ℕ, ◌==◌, if◌then◌else◌}
+use Rattle.std.specs.Prelude.{List, [], ◌∷◌, ℕ, ◌==◌, if◌then◌else◌, Ok, Err}
 use Rattle.numbers.specs.Sections.{str_code}
-use Rattle.octets.specs.Checked.{pass, refuse, ◌>>=◌}
+use Rattle.octets.specs.Checked.{◌>>=◌}
 use Rattle.bundle.specs.Bundle.{bundle_of, body}
 use Rattle.package.specs.Filing.{filing_of}
 use Rattle.package.specs.Pack.{all_used}
@@ -19,9 +19,9 @@ pieces (b ∷ s) = if b == 0 then (b ∷ []) ∷ pieces s else onto b (pieces s)
 
 -- the bytes of the package's str section, none where it is missing
 unfoldable pub str_in : List ℕ → List ℕ
-str_in p = elim (package_of p) [ pass k ↦ body p k.parts str_code | refuse n ↦ [] ]
+str_in p = elim (package_of p) [ Ok k ↦ body p k.parts str_code | Err n ↦ [] ]
 
 -- the strings that the entries of str_offsets name in their objects' str, entry by entry, in the order of an accepted bundle; of a version 5 package part by part,
 -- in order of offset, each part's entries behind its header
 unfoldable pub strings_named : List ℕ → List (List ℕ)
-strings_named b = elim (bundle_of b >>= filing_of b) [ pass f ↦ all_used f.inputs | refuse n ↦ [] ]
+strings_named b = elim (bundle_of b >>= filing_of b) [ Ok f ↦ all_used f.inputs | Err n ↦ [] ]

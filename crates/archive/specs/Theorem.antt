@@ -1,13 +1,11 @@
 -- The theorem: one claim, from the bundle that is packed to the answers of lookups in its package (FORMAT 7.7).
 -- b is a bundle that packing accepts, p its package; every answer of both lookups on p is told from the units handed in with b.
-use Rattle.std.specs.Prelude.{◌≡◌, ◌⊎◌, ◌↔◌, Bool, true, false, ◌||◌, List, [], ◌∷◌, ◌++◌, map, ℕ, ◌+◌, ◌*◌, ◌-◌, ◌%◌, ◌≤◌, ◌<◌, length, take, ◌==◌, nat_le, slice_index, slice_index_or, if◌then◌else◌}
-use Rattle.std.proofs.Math.Option.{Option, some, none}
+use Rattle.std.specs.Prelude.{◌≡◌, ◌⊎◌, ◌↔◌, Bool, true, false, ◌||◌, List, [], ◌∷◌, ◌++◌, map, ℕ, ◌+◌, ◌*◌, ◌-◌, ◌%◌, ◌≤◌, ◌<◌, length, take, ◌==◌, nat_le, slice_index, slice_index_or, if◌then◌else◌, Option, Some, None, Ok, Err}
 use Rattle.numbers.specs.Tables.{compilation_table, type_table, dwarf5, index2, index5}
 use Rattle.numbers.specs.Sections.{str_offsets_code, str_code, first_shared, last_shared}
 use Rattle.numbers.specs.Refusals.{no_string, other_version, no_entry}
 use Rattle.octets.specs.Octets.{part as bytes_at}
 use Rattle.octets.specs.Lists.{any, those}
-use Rattle.octets.specs.Checked.{pass, refuse}
 use Rattle.bundle.specs.Bundle.{Object, Bundle, bundle_of}
 use Rattle.strings.specs.Strings.{header_size, string_at, ended, first_uses}
 use Rattle.index.specs.Index.{Index}
@@ -28,7 +26,7 @@ is_version_of [] v = v == index2 || v == index5
 is_version_of (o ∷ os) v = if o.word % 256 == dwarf5 then (v == index5) else (v == index2)
 
 unfoldable pub is_index_version : List ℕ → ℕ → Bool
-is_index_version b v = elim (bundle_of b) [ pass k ↦ is_version_of k.objects v | refuse n ↦ false ]
+is_index_version b v = elim (bundle_of b) [ Ok k ↦ is_version_of k.objects v | Err n ↦ false ]
 
 -- the index version known, and a table: 1 compilation or 2 type
 pub record Asked (b : List ℕ) (v table : ℕ) : Type 0 where
@@ -109,7 +107,7 @@ Holds p answer n bytes = (start : ℕ) × (answer ≡ part start (length bytes) 
 -- object by object and section by section, the units handed in are all of info and types: none is left out, and each stands in its own object.
 -- Each is read at its place there, by which its row is found where a row must name it
 abbrev pub EveryUnitIsHandedIn : List ℕ → Type 0
-EveryUnitIsHandedIn b = (k : Bundle) → bundle_of b ≡ pass k → FillObjects b k.big (first_word k.objects) k.objects (handed_in b)
+EveryUnitIsHandedIn b = (k : Bundle) → bundle_of b ≡ Ok k → FillObjects b k.big (first_word k.objects) k.objects (handed_in b)
 
 -- and each of them is a unit: read alone it has its size, its table and its identity, and it is for the table that its section and unit type say
 abbrev pub EachIsAUnit : List ℕ → Type 0
@@ -117,12 +115,12 @@ EachIsAUnit b = (before behind : List Filed) (u : Filed) → handed_in b ≡ bef
 
 -- a table as it is read from the package: missing exactly where no unit was handed in for it, else with the slots that the other clauses speak of
 pub record TableRead (b : List ℕ) (table : ℕ) (read : Option Index) : Type 0 where
-  pub missing : (read ≡ none) ↔ (any (is_for table) (handed_in b) ≡ false)
-  pub slots : (i : Index) → read ≡ some i → (i.identities ≡ (slots_of_table b table).identities) × (i.rows ≡ (slots_of_table b table).rows)
+  pub missing : (read ≡ None) ↔ (any (is_for table) (handed_in b) ≡ false)
+  pub slots : (i : Index) → read ≡ Some i → (i.identities ≡ (slots_of_table b table).identities) × (i.rows ≡ (slots_of_table b table).rows)
 
 -- the package opens, and has this table
 abbrev pub TableIn : List ℕ → List ℕ → ℕ → Type 0
-TableIn b p table = (k : Package) × (package_of p ≡ pass k) × TableRead b table (index_for k table)
+TableIn b p table = (k : Package) × (package_of p ≡ Ok k) × TableRead b table (index_for k table)
 
 abbrev pub ThePackagesTables : List ℕ → List ℕ → Type 0
 ThePackagesTables b p = (table : ℕ) → (table ≡ compilation_table) ⊎ (table ≡ type_table) → TableIn b p table
@@ -152,7 +150,7 @@ TheFirstUnitInLength b p =
 abbrev pub ItsStrings : List ℕ → List ℕ → Type 0
 ItsStrings b p =
     (v table x k : ℕ) (u : Filed) → Asked b v table → IsFirst b table x u → k < length (entries_of_unit u)
-    → (string : List ℕ) × (string_at no_string (u.input.bytes str_code) (slice_index (entries_of_unit u) k) ≡ pass string)
+    → (string : List ℕ) × (string_at no_string (u.input.bytes str_code) (slice_index (entries_of_unit u) k) ≡ Ok string)
     × Holds p (string_found p v table x k) (looks b table x) string
 
 -- for any other number of an entry the answer is 25

@@ -1,9 +1,7 @@
 -- Every clause of the theorem, used of one small bundle: what it says there, worked out.
-use Rattle.std.specs.Prelude.{◌≡◌, ◌⊎◌, false, List, [], ◌∷◌, ℕ, ◌+◌, ◌≤◌, ◌<◌, length, get_or, if◌then◌else◌}
-use Rattle.std.proofs.Math.Option.{Option, some, none}
+use Rattle.std.specs.Prelude.{◌≡◌, ◌⊎◌, false, List, [], ◌∷◌, ℕ, ◌+◌, ◌≤◌, ◌<◌, length, get_or, if◌then◌else◌, Option, Some, None, Ok}
 use Rattle.numbers.specs.Refusals.{other_version, no_entry}
 use Rattle.octets.specs.Octets.{numbers_of, part as bytes_at}
-use Rattle.octets.specs.Checked.{pass}
 use Rattle.bundle.specs.Bundle.{Part, Bundle, bundle_of, count, body}
 use Rattle.bundle.specs.Encoding.{encoding_of}
 use Rattle.octets.specs.Lists.{has}
@@ -51,8 +49,8 @@ its_object = record {
   bytes = body bundle its_parts;
   units = unit_sections bundle its_parts;
   pieces = record { bytes = bytes_at bundle 92 16; used = (98 ∷ []) ∷ (97 ∷ []) ∷ [] } ∷ [];
-  cu_index = none;
-  tu_index = none;
+  cu_index = None;
+  tu_index = None;
 }
 
 abbrev unit : ℕ → ℕ → ℕ → ℕ → BySection (Option Contribution) → Filed
@@ -73,7 +71,7 @@ abbrev pub first_type : Filed
 first_type = unit 2 7 32 24 (whole_contributions (lengths its_object))
 
 abbrev pub same_type : Filed
-same_type = unit 2 7 56 24 (λ c. none)
+same_type = unit 2 7 56 24 (λ c. None)
 
 -- ---- a package of version 4, packed again: its unit has a row, which is found by its place
 abbrev pub four : List ℕ
@@ -102,8 +100,8 @@ row_object = record {
   bytes = body four row_parts;
   units = unit_sections four row_parts;
   pieces = [];
-  cu_index = some its_index;
-  tu_index = none;
+  cu_index = Some its_index;
+  tu_index = None;
 }
 
 abbrev pub row_unit : Filed
@@ -113,21 +111,21 @@ row_unit = record {
   home = 1;
   bytes = bytes_at four 12 20;
   input = row_object;
-  contributions = λ s. if has (needed_codes (lengths row_object)) s then cell_of its_index 1 s else none;
+  contributions = λ s. if has (needed_codes (lengths row_object)) s then cell_of its_index 1 s else None;
   bases = λ c. 0;
 }
 
 pub record ByARow : Type 0 where
   pub by_row : ByRow row_unit its_index
-  pub one_row : (place : ℕ) × (row : ℕ) × (the_one (naming its_index place (length row_unit.bytes)) ≡ pass row) × (row_of its_index (probe its_index 1) ≡ pass row)
+  pub one_row : (place : ℕ) × (row : ℕ) × (the_one (naming its_index place (length row_unit.bytes)) ≡ Ok row) × (row_of its_index (probe its_index 1) ≡ Ok row)
   pub its_cell : (row : ℕ) × CellOf row_unit its_index row 3
 
 -- ---- clause by clause, in the order of the theorem's record
 pub record EveryClauseUsed : Type 0 where
-  pub every_unit : (k : Bundle) × (bundle_of bundle ≡ pass k) × FillObjects bundle k.big (first_word k.objects) k.objects (handed_in bundle)
+  pub every_unit : (k : Bundle) × (bundle_of bundle ≡ Ok k) × FillObjects bundle k.big (first_word k.objects) k.objects (handed_in bundle)
   pub a_unit : IsUnit same_type
-  pub its_whole_section : compilation.contributions 3 ≡ some (record { offset = 0; size = 1 })
-  pub nothing_of_line : compilation.contributions 4 ≡ none
+  pub its_whole_section : compilation.contributions 3 ≡ Some (record { offset = 0; size = 1 })
+  pub nothing_of_line : compilation.contributions 4 ≡ None
   pub by_a_row : ByARow
   pub kept_type : IsKept bundle first_type ⊎ IsSkippedType (compilation ∷ []) first_type
   pub skipped_type : IsKept bundle same_type ⊎ IsSkippedType (compilation ∷ first_type ∷ []) same_type

@@ -1,9 +1,8 @@
 -- What it says of a package that it was verified: it answers with what was handed in, whoever wrote it.
-use Rattle.std.specs.Prelude.{◌≡◌, ◌⊎◌, List, [], ℕ, ◌<◌, length, slice_index}
+use Rattle.std.specs.Prelude.{◌≡◌, ◌⊎◌, List, [], ℕ, ◌<◌, length, slice_index, Ok, Err}
 use Rattle.numbers.specs.Refusals.{no_string, bad_package, output_short}
 use Rattle.numbers.specs.Sections.{str_offsets_code, str_code}
 use Rattle.octets.specs.Octets.{part as bytes_at}
-use Rattle.octets.specs.Checked.{pass, refuse}
 use Rattle.bundle.specs.Bundle.{Bundle, bundle_of}
 use Rattle.bundle.specs.Encoding.{encoding_of}
 use Rattle.strings.specs.Strings.{string_at}
@@ -26,11 +25,11 @@ pub record HasUnit (p : List ℕ) (v table x : ℕ) (u : Filed) : Type 0 where
   pub offsets : (start : ℕ) × (looks : ℕ) × (looked_up p v table x str_offsets_code ≡ part start (length (handed_part u str_offsets_code)) looks)
       × (bytes_at p start (length (header_of u)) ≡ header_of u)
   pub strings : (k : ℕ) → k < length (entries_of_unit u)
-      → (string : List ℕ) × (string_at no_string (u.input.bytes str_code) (slice_index (entries_of_unit u) k) ≡ pass string) × Holding p (string_found p v table x k) string
+      → (string : List ℕ) × (string_at no_string (u.input.bytes str_code) (slice_index (entries_of_unit u) k) ≡ Ok string) × Holding p (string_found p v table x k) string
 
 pub record Verified (b p : List ℕ) (v : ℕ) : Type 0 where
   -- what it states is what the first object of b states
-  pub encoding : (k : Bundle) → bundle_of b ≡ pass k → (k.objects ≡ [] → ⊥) → coded (package_in p).encoding ≡ coded (encoding_of k.big (first_word k.objects))
+  pub encoding : (k : Bundle) → bundle_of b ≡ Ok k → (k.objects ≡ [] → ⊥) → coded (package_in p).encoding ≡ coded (encoding_of k.big (first_word k.objects))
   -- and it has each unit that was handed in with b and is the first under its identity
   pub units : (table x : ℕ) (u : Filed) → Asked b v table → IsFirst b table x u → HasUnit p v table x u
 
@@ -53,7 +52,7 @@ refusal n length = record { code = n; table = 0; section = 0; identity = 0; entr
 
 -- the bundle's package was made, and this is said of p: yes; that it is no package; or at which place it answers otherwise than the bundle's package does
 abbrev pub Judged : List ℕ → List ℕ → ℕ → Verdict → Type 0
-Judged q p v r = (r ≡ refusal 0 0) ⊎ ((package_of p ≡ refuse bad_package) × (r ≡ refusal bad_package 0)) ⊎ (IsFault p q v (fault_of r) × (r.code ≡ not_verified) × (r.length ≡ 0))
+Judged q p v r = (r ≡ refusal 0 0) ⊎ ((package_of p ≡ Err bad_package) × (r ≡ refusal bad_package 0)) ⊎ (IsFault p q v (fault_of r) × (r.code ≡ not_verified) × (r.length ≡ 0))
 
 pub record VerdictIs (b : List ℕ) (w o : ℕ) (p : List ℕ) (v : ℕ) (r : Verdict) : Type 0 where
   -- if it says yes, everything is there

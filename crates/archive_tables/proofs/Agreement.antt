@@ -18,5 +18,5 @@ unfolding columns_four columns_five columns_of sections_two in_its_place column_
 columns_agree = (refl, refl)
 
 pub forms_agree : FormsAgree
-unfolding forms has any classes width_among width_by_rule forms_from forms_by_rule
+unfolding forms has classes width_among width_by_rule forms_from forms_by_rule
 forms_agree = refl

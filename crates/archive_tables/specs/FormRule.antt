@@ -1,7 +1,6 @@
 -- The width of a form: each width has its forms, by the names that DWARF 4 gives them, and the two of split DWARF before version 5.
 -- The table has every form that has a width, rising.
-use Rattle.std.specs.Prelude.{true, false, List, [], ◌∷◌, ℕ, zero, suc, if◌then◌else◌}
-use Rattle.std.proofs.Math.Option.{Option, some, none}
+use Rattle.std.specs.Prelude.{true, false, List, [], ◌∷◌, ℕ, zero, suc, if◌then◌else◌, Option, Some, None}
 use Rattle.octets.specs.Lists.{has}
 use Rattle.unit.specs.Forms.{Width, fixed, address, offset, uleb, sleb, string, indirect, block, uleb_block, Form}
 
@@ -48,8 +47,8 @@ classes =
     ∷ []
 
 unfoldable pub width_among : List Class → ℕ → Option Width
-width_among [] f = none
-width_among (c ∷ cs) f = if has c.forms f then some c.width else width_among cs f
+width_among [] f = None
+width_among (c ∷ cs) f = if has c.forms f then Some c.width else width_among cs f
 
 unfoldable pub width_by_rule : ℕ → Option Width
 width_by_rule f = width_among classes f
@@ -58,7 +57,7 @@ width_by_rule f = width_among classes f
 unfoldable pub forms_from : ℕ → ℕ → List Form
 forms_from f zero = []
 forms_from f (suc n) =
-    elim (width_by_rule f) [ some w ↦ record { form = f; width = w } ∷ forms_from (suc f) n | none ↦ forms_from (suc f) n ]
+    elim (width_by_rule f) [ Some w ↦ record { form = f; width = w } ∷ forms_from (suc f) n | None ↦ forms_from (suc f) n ]
 
 -- no form is greater than 1F02
 unfoldable pub forms_by_rule : List Form

@@ -11,7 +11,7 @@ use unit::forms::Width;
 const FORM_LIMIT: u64 = 0x1F03;
 
 // Each width with its forms, by their names.
-#[tactic(auto, unfolding(octets::specs::Lists::has, octets::specs::Lists::any, unit::specs::Widths::width_is, crate::specs::FormRule::classes, crate::specs::FormRule::width_among, crate::specs::FormRule::width_by_rule))]
+#[tactic(auto, unfolding(octets::specs::Lists::has, unit::specs::Widths::width_is, crate::specs::FormRule::classes, crate::specs::FormRule::width_among, crate::specs::FormRule::width_by_rule))]
 fn width_by_rule(form: u64) -> Option<Width>
     ensures { option_map width_is result ≡ found (width_by_rule form) }
 {

@@ -1,20 +1,12 @@
 -- The answers written so far and those still to come; 38; and the whole call.
-use mathlib.Core.Path.{◌≡◌, refl, ap, sym, ◌∙◌}
-use mathlib.Core.Bool.{true, false, ◌&&◌}
-use mathlib.Core.List.{List, [], ◌∷◌}
-use mathlib.Core.Logic.{⊎_elim}
-use Prim.Native.Nat.{ℕ, ◌+◌, ◌*◌, ◌/◌, ◌≤◌, ◌<◌}
-use native.Mathlib.Omega.{arith}
-use lib.Dec.{leb}
-use lib.ListN.{length, get_or, take, drop, drop_of_length-le, length-append, length-drop}
-use borrow.Author.Tests.{leb-true}
+use Rattle.std.proofs.Common.{◌≡◌, refl, ap, sym, ◌∙◌, true, false, ◌&&◌, List, [], ◌∷◌, ⊎_elim, ℕ, ◌+◌, ◌*◌, ◌/◌, ◌≤◌, ◌<◌, arith, leb, length, get_or, take, drop, drop_of_length-le, length-append, length-drop, leb-true}
 use Rattle.numbers.specs.Limits.{questions_limit}
 use Rattle.numbers.specs.Refusals.{bad_questions}
 use Rattle.octets.specs.Octets.{placed, zeros}
 use Rattle.std.specs.Prelude.{Result, Ok, Err}
 use Rattle.numbers.specs.Refused.{number_of}
 use Rattle.numbers.specs.declared.refusals.Refusal.{Refusal}
-use Rattle.octets.specs.Checked.{pass, refuse, mapped}
+use Rattle.octets.specs.Checked.{mapped}
 use Rattle.octets.proofs.Checks.{passes, fails, then_pass, then_refuse, and_left, and_right, and_fails, known}
 use Rattle.octets.proofs.Placed.{length_placed, placed_none, placed_placed, padded_none, padded_step}
 use Rattle.answers.specs.Answers.{refused, made, output_of, written_of}
@@ -31,7 +23,7 @@ module _ (p : List ℕ) (r : Result Package Refusal) (o : OpenedAs p r) where
   pub opened_bytes : (k : Package) → r ≡ Ok k → k.bytes.now ≡ p
   opened_bytes k e = rw e at o.bytes
 
-  pub opened_refused : (n : Refusal) → r ≡ Err n → refuse (number_of n) ≡ opened (package_of p)
+  pub opened_refused : (n : Refusal) → r ≡ Err n → Err (number_of n) ≡ opened (package_of p)
   unfolding mapped
   opened_refused n e = rw e at o.head
 
@@ -119,7 +111,7 @@ module _ (w : List ℕ) (room : ℕ) where
 
 -- ---- the whole call
 module _ (p : List ℕ) (version : ℕ) (w : List ℕ) (room : ℕ) where
-  judged_not : batch_judged p version w room ≡ refuse bad_questions → batch_answered p version w room ≡ refused bad_questions
+  judged_not : batch_judged p version w room ≡ Err bad_questions → batch_answered p version w room ≡ refused bad_questions
   unfolding batch_answered
   judged_not e = rw (batch_answered, e)
 
@@ -146,7 +138,7 @@ module _ (p : List ℕ) (version : ℕ) (w : List ℕ) (room : ℕ) where
   unfolding batch_answered batch_judged is_taken
   batch_made e =
       let l = and_left (are_questions w && leb (length (questions_in w)) questions_limit) _ e in
-      let j : batch_judged p version w room ≡ pass (answers_to p version (questions_in w)) =
+      let j : batch_judged p version w room ≡ Ok (answers_to p version (questions_in w)) =
       then_pass _ _ _ (are_in w (and_left (are_questions w) _ l))
       ∙ passes _ _ _ (and_right (are_questions w) _ l)
       ∙ passes _ _ _ (and_right (are_questions w && leb (length (questions_in w)) questions_limit) _ e) in

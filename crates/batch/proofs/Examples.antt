@@ -1,8 +1,5 @@
 -- Whole calls of many questions, as the checker computes them: a part, an absence, a missing column, refusals, and the ways to 38.
-use mathlib.Core.Path.{◌≡◌, refl}
-use mathlib.Core.Bool.{false}
-use mathlib.Core.List.{List, [], ◌∷◌}
-use Prim.Native.Nat.{ℕ}
+use Rattle.std.proofs.Common.{◌≡◌, refl, false, List, [], ◌∷◌, ℕ}
 use Rattle.octets.specs.Checked
 use Rattle.octets.specs.Lists
 use Rattle.octets.specs.Octets
@@ -49,5 +46,5 @@ Examples =
     × (batch_answered (zeros 4) 5 (0x5000_0011 ∷ 1 ∷ 0 ∷ []) 4 ≡ refused 38)
 
 pub examples : Examples
-unfolding Checked.◌>>=◌ Checked.require Checked.renumbered Lists.all Lists.any Lists.has Lists.distinct Lists.zero_together Lists.those Lists.joined Octets.part Octets.little Octets.big_from Octets.number Octets.number_at Octets.numbers_in Octets.little_of Octets.big_of Octets.bytes_of Octets.numbers_of Octets.zeros Bundle.filled_up Bundle.object_step Bundle.section_step Bundle.end_step Bundle.step_of Bundle.step_at Bundle.followed Bundle.items_from Bundle.items Bundle.leading Bundle.objects_of Bundle.object_first Bundle.bundle_of Bundle.length_good Bundle.parts_of Bundle.count Bundle.first_part Bundle.body Encoding.encoding_of Encoding.encoding_good Columns.columns_four Columns.columns_five Columns.columns_of Columns.column_in Index.version_of Index.columns_most Index.code_good Index.power_from Index.least_power Index.slots_good Index.layout Index.index_of Index.place_of Index.cell_at Index.cell_of Probing.first_slot Probing.stride Probing.look Probing.search Probing.probe Lookup.codes Lookup.package_index Lookup.object_judged Lookup.objects_judged Lookup.package_of Lookup.has_version Lookup.version_good Lookup.table_good Lookup.index_for Lookup.place_in Lookup.cell_place Lookup.part_place Lookup.at_row Lookup.in_table Lookup.answered Lookup.part_judged Lookup.looked_up Told.numbered question questions_of asked words_of answer_to answers_to batch_judged batch_answered
+unfolding Checked.◌>>=◌ Checked.require Checked.renumbered Lists.has Lists.distinct Lists.zero_together Octets.part Octets.little Octets.big_from Octets.number Octets.number_at Octets.numbers_in Octets.little_of Octets.big_of Octets.bytes_of Octets.numbers_of Octets.zeros Bundle.filled_up Bundle.object_step Bundle.section_step Bundle.end_step Bundle.step_of Bundle.step_at Bundle.followed Bundle.items_from Bundle.items Bundle.leading Bundle.objects_of Bundle.object_first Bundle.bundle_of Bundle.length_good Bundle.parts_of Bundle.count Bundle.first_part Bundle.body Encoding.encoding_of Encoding.encoding_good Columns.columns_four Columns.columns_five Columns.columns_of Columns.column_in Index.version_of Index.columns_most Index.code_good Index.power_from Index.least_power Index.slots_good Index.layout Index.index_of Index.place_of Index.cell_at Index.cell_of Probing.first_slot Probing.stride Probing.look Probing.search Probing.probe Lookup.codes Lookup.package_index Lookup.object_judged Lookup.objects_judged Lookup.package_of Lookup.has_version Lookup.version_good Lookup.table_good Lookup.index_for Lookup.place_in Lookup.cell_place Lookup.part_place Lookup.at_row Lookup.in_table Lookup.answered Lookup.part_judged Lookup.looked_up Told.numbered question questions_of asked words_of answer_to answers_to batch_judged batch_answered
 examples = (refl, refl, refl, refl, refl, refl, refl, refl, refl, refl, refl, refl, refl, refl, refl, refl)

@@ -1,19 +1,11 @@
 -- The words of questions, read from the front three by three.
-use mathlib.Core.Path.{◌≡◌, refl, ap, sym, ◌∙◌}
-use mathlib.Core.Bool.{Bool, true, false}
-use mathlib.Core.List.{List, [], ◌∷◌}
-use Prim.Native.Nat.{ℕ, zero, suc, ◌+◌, ◌*◌, ◌/◌, ◌%◌, ◌≤◌}
-use native.Mathlib.Omega.{arith}
+use Rattle.std.proofs.Common.{◌≡◌, refl, ap, sym, ◌∙◌, Bool, true, false, List, [], ◌∷◌, ℕ, zero, suc, ◌+◌, ◌*◌, ◌/◌, ◌%◌, ◌≤◌, arith, add-one, length, get_or, drop, drop_of_length-le, eqb, drop-cons, eq-eqb, ne_eqb, ⊎_elim}
 use native.Mathlib.Decide.{ℕ_discrete}
-use native.Mathlib.Numerals.{add-one, add-two, add-three}
-use lib.ListN.{length, get_or, drop, drop_of_length-le}
-use lib.Dec.{eqb}
-use lib.Seq.{drop-cons}
+use native.Mathlib.Numerals.{add-two, add-three}
 use Rattle.std.specs.List.{list_all, range_with_len}
-use borrow.Author.Tests.{eq-eqb, ne_eqb}
 use Rattle.numbers.specs.Refusals.{bad_questions}
-use Rattle.octets.specs.Checked.{Check, pass, refuse, ◌>>=◌}
-use mathlib.Core.Logic.{⊎_elim}
+use Rattle.std.specs.Prelude.{Result, Ok, Err}
+use Rattle.octets.specs.Checked.{◌>>=◌}
 use Rattle.octets.proofs.Checks.{true_false, passes, fails, then_refuse, known}
 use Rattle.batch.specs.Batch.{Question, question_kind, question, questions_of}
 use Rattle.batch.specs.Ties.{is_pass, or_none, are_questions, questions_in}
@@ -25,7 +17,7 @@ module _ (first low high : ℕ) (rest : List ℕ) where
   are_other f = ap is_pass (fails _ _ _ (ne_eqb (first / 256) question_kind f))
 
   module _ (e : first / 256 ≡ question_kind) where
-    read : questions_of (first ∷ low ∷ high ∷ rest) ≡ (questions_of rest >>= λ qs. pass (question first low high ∷ qs))
+    read : questions_of (first ∷ low ∷ high ∷ rest) ≡ (questions_of rest >>= λ qs. Ok (question first low high ∷ qs))
     unfolding questions_of
     read = passes _ _ _ (eq-eqb (first / 256) question_kind e)
 
@@ -33,17 +25,17 @@ module _ (first low high : ℕ) (rest : List ℕ) where
     unfolding are_questions is_pass ◌>>=◌
     are_more = ap is_pass read ∙ go (questions_of rest)
       where
-        go : (m : Check (List Question)) → is_pass (m >>= λ qs. pass (question first low high ∷ qs)) ≡ is_pass m
-        go (pass qs) = refl
-        go (refuse n) = refl
+        go : (m : Result (List Question) ℕ) → is_pass (m >>= λ qs. Ok (question first low high ∷ qs)) ≡ is_pass m
+        go (Ok qs) = refl
+        go (Err n) = refl
 
     pub in_more : are_questions rest ≡ true → questions_in (first ∷ low ∷ high ∷ rest) ≡ question first low high ∷ questions_in rest
     unfolding are_questions questions_in is_pass or_none ◌>>=◌
     in_more g = ap or_none read ∙ go (questions_of rest) g
       where
-        go : (m : Check (List Question)) → is_pass m ≡ true → or_none (m >>= λ qs. pass (question first low high ∷ qs)) ≡ question first low high ∷ or_none m
-        go (pass qs) h = refl
-        go (refuse n) h = absurd (true_false h refl)
+        go : (m : Result (List Question) ℕ) → is_pass m ≡ true → or_none (m >>= λ qs. Ok (question first low high ∷ qs)) ≡ question first low high ∷ or_none m
+        go (Ok qs) h = refl
+        go (Err n) h = absurd (true_false h refl)
 
 -- ---- at a place of the words
 pub three : (w : List ℕ) (i : ℕ) → i + 3 ≤ length w → drop i w ≡ get_or w i 0 ∷ get_or w (i + 1) 0 ∷ get_or w (i + 2) 0 ∷ drop (i + 3) w
@@ -104,15 +96,15 @@ pub not_whole : (w : List ℕ) → (length w % 3 ≡ 0 → ⊥) → false ≡ ar
 not_whole w f = ⊎_elim (λ e. let c = counted w e in absurd (f (omega arith))) (λ e. sym e) (known (are_questions w))
 
 -- ---- all of them
-pub are_in : (w : List ℕ) → are_questions w ≡ true → questions_of w ≡ pass (questions_in w)
+pub are_in : (w : List ℕ) → are_questions w ≡ true → questions_of w ≡ Ok (questions_in w)
 unfolding are_questions questions_in is_pass or_none
 are_in w e = go (questions_of w) e
   where
-    go : (m : Check (List Question)) → is_pass m ≡ true → m ≡ pass (or_none m)
-    go (pass qs) h = refl
-    go (refuse n) h = absurd (true_false h refl)
+    go : (m : Result (List Question) ℕ) → is_pass m ≡ true → m ≡ Ok (or_none m)
+    go (Ok qs) h = refl
+    go (Err n) h = absurd (true_false h refl)
 
-pub are_not : (w : List ℕ) → are_questions w ≡ false → questions_of w ≡ refuse bad_questions
+pub are_not : (w : List ℕ) → are_questions w ≡ false → questions_of w ≡ Err bad_questions
 unfolding are_questions questions_of is_pass
 are_not [] e = absurd (true_false refl e)
 are_not (a ∷ []) e = refl

@@ -1,15 +1,7 @@
 -- The numbers of an answer have 32 bits: a part lies in the package, and the package has more bytes than an index of it has slots.
-use mathlib.Core.Path.{◌≡◌, refl, ap}
-use mathlib.Core.Bool.{◌&&◌}
-use mathlib.Core.List.{List}
-use mathlib.Core.Logic.{⊎_elim}
-use mathlib.Core.Option.{some, none}
-use Prim.Native.Nat.{ℕ, ◌%◌, ◌≤◌}
-use native.Mathlib.Omega.{arith}
-use lib.Dec.{eqb, leb}
-use lib.ListN.{length}
-use borrow.Author.Tests.{leb-true}
-use Rattle.octets.specs.Checked.{pass, mapped}
+use Rattle.std.proofs.Common.{◌≡◌, refl, ap, ◌&&◌, List, ⊎_elim, ℕ, ◌%◌, ◌≤◌, arith, eqb, leb, length, leb-true}
+use Rattle.std.specs.Prelude.{Some, None, Ok}
+use Rattle.octets.specs.Checked.{mapped}
 use Rattle.octets.proofs.Checks.{and_left, and_right}
 use Rattle.octets.proofs.Parts.{length_part_le}
 use Rattle.bundle.specs.Bundle.{length_good, body}
@@ -26,14 +18,14 @@ use Rattle.lookup.proofs.Bounds.{part_named, part_inside, part_missed}
 use Rattle.batch.specs.Batch.{Question, asked}
 use Rattle.batch.specs.Ties.{Narrow}
 
-module _ (p : List ℕ) (k : Package) (e : package_of p ≡ pass k) where
+module _ (p : List ℕ) (k : Package) (e : package_of p ≡ Ok k) where
   package_small : length p ≤ 117_440_512
   unfolding length_good
   package_small =
       let l = (package_passed p k e).0 in
       leb-true (length p) 117_440_512 (and_right (leb 8 (length p)) (leb (length p) 117_440_512) (and_left (leb 8 (length p) && leb (length p) 117_440_512) (eqb (length p % 4) 0) l))
 
-  slots_few : (table : ℕ) (i : Index) → index_for k table ≡ some i → length i.rows ≤ length p
+  slots_few : (table : ℕ) (i : Index) → index_for k table ≡ Some i → length i.rows ≤ length p
   unfolding mapped
   slots_few table i f =
       let c = index_code table in
@@ -60,7 +52,7 @@ asked_narrow p version q = go (looked_up p version q.table q.identity q.section)
           length = omega arith;
           looks =
               ⊎_elim
-              (λ (z : (index_for m.held q.table ≡ none) × (looks ≡ 0)). omega (arith, z.1))
+              (λ (z : (index_for m.held q.table ≡ None) × (looks ≡ 0)). omega (arith, z.1))
               (λ z. omega (arith, package_small p m.held m.opened, slots_few p m.held m.opened q.table z.0 z.1, z.3))
               m.either;
         }

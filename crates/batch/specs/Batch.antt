@@ -1,8 +1,8 @@
 -- Many questions for one package, as words, and their answers, as words.
-use Rattle.std.specs.Prelude.{List, [], ◌∷◌, ◌++◌, ℕ, ◌+◌, ◌*◌, ◌/◌, ◌%◌, length, ◌==◌, nat_le}
+use Rattle.std.specs.Prelude.{List, [], ◌∷◌, ◌++◌, ℕ, ◌+◌, ◌*◌, ◌/◌, ◌%◌, length, ◌==◌, nat_le, Result, Ok, Err}
 use Rattle.numbers.specs.Limits.{questions_limit}
 use Rattle.numbers.specs.Refusals.{bad_questions}
-use Rattle.octets.specs.Checked.{Check, pass, refuse, ◌>>=◌, require}
+use Rattle.octets.specs.Checked.{◌>>=◌, require}
 use Rattle.answers.specs.Answers.{Answer, refused, made}
 use Rattle.lookup.specs.Lookup.{Found, looked_up}
 use Rattle.lookup.specs.Answers.{numbered}
@@ -23,14 +23,14 @@ unfoldable pub question : ℕ → ℕ → ℕ → Question
 question first low high = record { table = first % 16; section = first / 16 % 16; identity = low + 0x1_0000_0000 * high }
 
 -- 38: a first word of another kind, or words left over
-unfoldable pub questions_of : List ℕ → Check (List Question)
-questions_of [] = pass []
-questions_of (first ∷ []) = refuse bad_questions
-questions_of (first ∷ low ∷ []) = refuse bad_questions
+unfoldable pub questions_of : List ℕ → Result (List Question) ℕ
+questions_of [] = Ok []
+questions_of (first ∷ []) = Err bad_questions
+questions_of (first ∷ low ∷ []) = Err bad_questions
 questions_of (first ∷ low ∷ high ∷ rest) = do
   _ ← require (first / 256 == question_kind) bad_questions
   questions ← questions_of rest
-  pass (question first low high ∷ questions)
+  Ok (question first low high ∷ questions)
 
 -- ---- the answers
 -- each is the single lookup's; a table or a section code out of range is a good question, which the lookup refuses
@@ -50,13 +50,13 @@ answers_to p version [] = []
 answers_to p version (q ∷ qs) = answer_to p version q ++ answers_to p version qs
 
 -- 38: too many questions, or too few words for the answers. It comes before any lookup, so also for a bad package.
-unfoldable pub batch_judged : List ℕ → ℕ → List ℕ → ℕ → Check (List ℕ)
+unfoldable pub batch_judged : List ℕ → ℕ → List ℕ → ℕ → Result (List ℕ) ℕ
 batch_judged p version words room = do
   questions ← questions_of words
   _ ← require (nat_le (length questions) questions_limit) bad_questions
   _ ← require (nat_le (4 * length questions) room) bad_questions
-  pass (answers_to p version questions)
+  Ok (answers_to p version questions)
 
 -- of a package, the index version for all questions, the words of the questions, and how many words there are for the answers
 unfoldable pub batch_answered : List ℕ → ℕ → List ℕ → ℕ → Answer
-batch_answered p version words room = elim (batch_judged p version words room) [ pass answers ↦ made answers | refuse n ↦ refused n ]
+batch_answered p version words room = elim (batch_judged p version words room) [ Ok answers ↦ made answers | Err n ↦ refused n ]

@@ -1,9 +1,9 @@
 -- What ties the code to the definitions. Nothing here need be believed.
-use Rattle.std.specs.Prelude.{◌≡◌, Bool, true, false, ◌&&◌, List, [], ℕ, ◌*◌, ◌^◌, ◌≤◌, ◌<◌, length, Result, IfOk, nat_le}
+use Rattle.std.specs.Prelude.{◌≡◌, Bool, true, false, ◌&&◌, List, [], ℕ, ◌*◌, ◌^◌, ◌≤◌, ◌<◌, length, Result, IfOk, nat_le, Ok, Err}
 use Rattle.numbers.specs.Limits.{questions_limit}
 use Rattle.numbers.specs.Refused.{told}
 use Rattle.numbers.specs.declared.refusals.Refusal.{Refusal}
-use Rattle.octets.specs.Checked.{Check, pass, refuse, mapped}
+use Rattle.octets.specs.Checked.{mapped}
 use Rattle.lookup.specs.Lookup.{package_of}
 use Rattle.lookup.specs.Answers.{opened}
 use Rattle.lookup.specs.declared.answering.Answer.{Answer}
@@ -11,14 +11,14 @@ use Rattle.lookup.specs.declared.package.Package.{Package}
 use Rattle.batch.specs.Batch.{Question, questions_of}
 
 -- ---- the questions
-unfoldable pub is_pass : Check (List Question) → Bool
-is_pass (pass qs) = true
-is_pass (refuse n) = false
+unfoldable pub is_pass : Result (List Question) ℕ → Bool
+is_pass (Ok qs) = true
+is_pass (Err n) = false
 
 -- none where they are refused
-unfoldable pub or_none : Check (List Question) → List Question
-or_none (pass qs) = qs
-or_none (refuse n) = []
+unfoldable pub or_none : Result (List Question) ℕ → List Question
+or_none (Ok qs) = qs
+or_none (Err n) = []
 
 unfoldable pub are_questions : List ℕ → Bool
 are_questions words = is_pass (questions_of words)

@@ -1,15 +1,8 @@
 -- What is written is read again, item by item.
-use mathlib.Core.Path.{◌≡◌, refl, ap, sym, ◌∙◌}
-use mathlib.Core.Bool.{false}
-use mathlib.Core.List.{List, [], ◌++◌, append-nil, append_assoc}
-use Prim.Native.Nat.{ℕ, ◌+◌, ◌*◌, ◌-◌, ◌/◌, ◌%◌, ◌≤◌, ◌<◌}
-use native.Mathlib.Omega.{arith}
-use lib.Dec.{eqb}
-use lib.ListN.{length, length-append}
-use lib.Seq.{drop_at}
+use Rattle.std.proofs.Common.{◌≡◌, refl, ap, sym, ◌∙◌, false, List, [], ◌++◌, append-nil, append_assoc, ℕ, ◌+◌, ◌*◌, ◌-◌, ◌/◌, ◌%◌, ◌≤◌, ◌<◌, arith, eqb, length, length-append, drop_at}
 use Rattle.octets.specs.Octets.{part, number_at, zeros}
 use Rattle.octets.specs.Lists.{all}
-use Rattle.octets.specs.Checked.{pass}
+use Rattle.std.specs.Prelude.{Ok}
 use Rattle.octets.proofs.Numbers.{number_at_first}
 use Rattle.octets.proofs.Parts.{part_middle}
 use Rattle.octets.proofs.Placed.{length_zeros}
@@ -45,7 +38,7 @@ items_object at w s k =
     ∙ rw n (ap (λ (z : List ℕ). before (object w) (items (at + 4) z)) (drop_at (word_bytes w) s 4 (length_word w)))
 
 -- the end word, alone
-pub items_last : (at n : ℕ) → 4 * n ≡ at + 4 → n < 0x1000_0000 → items at (word_bytes (0x3000_0000 + n)) ≡ pass []
+pub items_last : (at n : ℕ) → 4 * n ≡ at + 4 → n < 0x1000_0000 → items at (word_bytes (0x3000_0000 + n)) ≡ Ok []
 items_last at n e h =
     let w = 0x3000_0000 + n in
     let k : w / 0x1000_0000 ≡ 3 = omega arith in

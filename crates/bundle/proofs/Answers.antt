@@ -1,13 +1,7 @@
 -- The answers of the functions that read one item, towards the code: b is the bundle, and at a place of it.
-use mathlib.Core.Path.{◌≡◌, ap, sym, ◌∙◌}
-use mathlib.Core.Bool.{true, false}
-use mathlib.Core.List.{List}
-use Prim.Native.Nat.{ℕ, ◌+◌, ◌-◌, ◌/◌, ◌%◌, ◌≤◌, ◌<◌}
-use native.Mathlib.Omega.{arith}
-use lib.Dec.{eqb}
-use lib.ListN.{length, drop, length-drop}
+use Rattle.std.proofs.Common.{◌≡◌, ap, sym, ◌∙◌, true, false, List, ℕ, ◌+◌, ◌-◌, ◌/◌, ◌%◌, ◌≤◌, ◌<◌, arith, eqb, length, drop, length-drop}
 use Rattle.octets.specs.Octets.{part, number_at}
-use Rattle.octets.specs.Checked.{pass, refuse}
+use Rattle.std.specs.Prelude.{Ok, Err}
 use Rattle.octets.specs.Lists.{all}
 use Rattle.octets.proofs.Parts.{part_drop}
 use Rattle.octets.proofs.Numbers.{number_at_drop}
@@ -17,7 +11,7 @@ use Rattle.bundle.specs.declared.Item.TheVariants.{Section}
 use Rattle.bundle.proofs.Cases.{step_short, step_word, kind_object, kind_section, kind_end, kind_other, section_good, section_unfilled}
 
 module _ (b : List ℕ) (at : ℕ) where
-  breaks : (st : Step) → st ≡ broken → refuse 3 ≡ next_of at st
+  breaks : (st : Step) → st ≡ broken → Err 3 ≡ next_of at st
   unfolding next_of
   breaks st e = sym (ap (next_of at) e)
 
@@ -28,15 +22,15 @@ module _ (b : List ℕ) (at : ℕ) where
         let place : at + (4 + size) ≡ at + 4 + size = omega arith in
         ap (all (eqb 0)) (part_drop b at (4 + size) (filled_up size - size) ∙ ap (λ (k : ℕ). part b k (filled_up size - size)) place)
 
-    pub unfilled : all (eqb 0) (part b (at + 4 + size) (filled_up size - size)) ≡ false → refuse 3 ≡ next_of at (section_step at (drop at b) code size)
+    pub unfilled : all (eqb 0) (part b (at + 4 + size) (filled_up size - size)) ≡ false → Err 3 ≡ next_of at (section_step at (drop at b) code size)
     unfilled z = breaks _ (section_unfilled at (drop at b) code size h g (rw length-drop l) (filling ∙ z))
 
     pub section_answer : all (eqb 0) (part b (at + 4 + size) (filled_up size - size)) ≡ true
-        → pass (Section (record { code = code; start = at + 4; size = size; next = at + 4 + filled_up size })) ≡ next_of at (section_step at (drop at b) code size)
+        → Ok (Section (record { code = code; start = at + 4; size = size; next = at + 4 + filled_up size })) ≡ next_of at (section_step at (drop at b) code size)
     unfolding next_of
     section_answer z = sym (ap (next_of at) (section_good at (drop at b) code size h g (rw length-drop l) (filling ∙ z)))
 
-  pub no_word : length b - at < 4 → refuse 3 ≡ next_of at (step_at at (drop at b))
+  pub no_word : length b - at < 4 → Err 3 ≡ next_of at (step_at at (drop at b))
   no_word h = breaks _ (step_short at (drop at b) (rw length-drop h))
 
   -- a word at the place, in its kind and the rest
@@ -57,5 +51,5 @@ module _ (b : List ℕ) (at : ℕ) where
     pub an_end : word / 0x1000_0000 ≡ 3 → next_of at (end_step at (drop at b) (word % 0x1000_0000)) ≡ next_of at (step_at at (drop at b))
     an_end k = sym (ap (next_of at) (of_kind ∙ kind_end at (drop at b) (word / 0x1000_0000) (word % 0x1000_0000) k))
 
-    pub another : (word / 0x1000_0000 ≡ 1 → ⊥) → (word / 0x1000_0000 ≡ 2 → ⊥) → (word / 0x1000_0000 ≡ 3 → ⊥) → refuse 3 ≡ next_of at (step_at at (drop at b))
+    pub another : (word / 0x1000_0000 ≡ 1 → ⊥) → (word / 0x1000_0000 ≡ 2 → ⊥) → (word / 0x1000_0000 ≡ 3 → ⊥) → Err 3 ≡ next_of at (step_at at (drop at b))
     another f g l = breaks _ (of_kind ∙ kind_other at (drop at b) (word / 0x1000_0000) (word % 0x1000_0000) f g l)

@@ -1,16 +1,8 @@
 -- The round trip, second half: the parts that are read name the sections' bytes.
-use mathlib.Core.Path.{◌≡◌, refl, ap, sym, ◌∙◌}
-use mathlib.Core.Bool.{Bool, true, false}
-use mathlib.Core.List.{List, [], ◌∷◌, ◌++◌, map, append_assoc}
-use Prim.Native.Nat.{ℕ, suc, ◌+◌, ◌*◌, ◌-◌, ◌<◌}
-use native.Mathlib.Omega.{arith}
+use Rattle.std.proofs.Common.{◌≡◌, refl, ap, sym, ◌∙◌, Bool, true, false, List, [], ◌∷◌, ◌++◌, map, append_assoc, ℕ, suc, ◌+◌, ◌*◌, ◌-◌, ◌<◌, arith, eqb, length, length-append, eq-eqb, ne_eqb}
 use native.Mathlib.Decide.{ℕ_discrete}
-use lib.Dec.{eqb}
-use lib.ListN.{length, length-append}
-use borrow.Author.Tests.{eq-eqb, ne_eqb}
 use Rattle.octets.specs.Octets.{part, zeros}
 use Rattle.octets.specs.Lists.{joined, those}
-use Rattle.octets.specs.Checked.{pass}
 use Rattle.octets.proofs.Lists.{those_keeps, those_skips}
 use Rattle.octets.proofs.Parts.{part_middle}
 use Rattle.bundle.specs.Bundle.{Part, Object, Bundle, filled_up, bundle_of, parts_of, count, first_part, body}
@@ -18,7 +10,7 @@ use Rattle.bundle.specs.Written.{Section, Sections, word_bytes, head_bytes, sect
 use Rattle.bundle.proofs.Every.{Every}
 use Rattle.bundle.proofs.Putting.{length_word, length_head, length_section}
 use Rattle.bundle.proofs.RoundTrip.{Storables, parts_from, objects_from, written_bundle}
-use Rattle.std.specs.Prelude.{if◌then◌else◌}
+use Rattle.std.specs.Prelude.{if◌then◌else◌, Ok}
 
 -- what parts of the bundle b hold
 unfoldable pub section_in : List ℕ → Part → Section
@@ -42,7 +34,7 @@ section_back b front s x at e l =
 
 sections_back : (b front s : List ℕ) (xs : List Section) (at : ℕ) → b ≡ front ++ (joined (map section_bytes xs) ++ s) → length front ≡ at
     → map (section_in b) (parts_from at xs) ≡ xs
-unfolding joined parts_from section_in
+unfolding parts_from section_in
 sections_back b front s [] at e l = refl
 sections_back b front s (x ∷ xs) at e l =
     let j = joined (map section_bytes xs) in
@@ -55,7 +47,7 @@ sections_back b front s (x ∷ xs) at e l =
 
 objects_back : (b front s : List ℕ) (os : List Sections) (at : ℕ) → b ≡ front ++ (joined (map object_bytes os) ++ s) → length front ≡ at
     → map (object_in b) (objects_from at os) ≡ os
-unfolding joined objects_from object_in object_bytes
+unfolding objects_from object_in object_bytes
 objects_back b front s [] at e l = refl
 objects_back b front s (o ∷ os) at e l =
     let w = word_bytes o.word in
@@ -77,7 +69,7 @@ module _ (big : Bool) (os : List Sections) where
       objects_back (written big os) (head_bytes big) e os 4 (append_assoc (head_bytes big) j e) (length_head big)
 
   pub round_trip : Every Storables os → length (written big os) < 0x4000_0000
-      → (u : Bundle) × (bundle_of (written big os) ≡ pass u) × (u.big ≡ big) × (map (object_in (written big os)) u.objects ≡ os)
+      → (u : Bundle) × (bundle_of (written big os) ≡ Ok u) × (u.big ≡ big) × (map (object_in (written big os)) u.objects ≡ os)
   round_trip good small = (record { big = big; objects = objects_from 4 os }, written_bundle big os good small, refl, written_back)
 
 -- ---- an object read, by the sections that it holds
@@ -87,7 +79,6 @@ bytes_at [] c = []
 bytes_at (x ∷ xs) c = if eqb x.code c then x.bytes else bytes_at xs c
 
 those_map : (f : Section → Bool) (g : Part → Section) (ps : List Part) → length (those (λ p. f (g p)) ps) ≡ length (those f (map g ps))
-unfolding those
 those_map f g [] = refl
 those_map f g (p ∷ ps) = go (f (g p)) refl (those_map f g ps)
   where

@@ -1,17 +1,11 @@
 -- An object word as code reads it: its cases, and what an answer of `read_word` says.
-use mathlib.Core.Path.{◌≡◌, refl, ap, sym, ◌∙◌}
-use mathlib.Core.Logic.{◌⊎◌, ⊎_elim}
-use mathlib.Core.Bool.{Bool, true, false, ◌||◌, ◌&&◌}
-use Prim.Native.Nat.{ℕ}
+use Rattle.std.proofs.Common.{◌≡◌, refl, ap, sym, ◌∙◌, ◌⊎◌, ⊎_elim, Bool, true, false, ◌||◌, ◌&&◌, ℕ, arith, eqb, eqb-true, eq-eqb, ne_eqb}
 use Rattle.std.specs.Prelude.{Ok, Err}
-use native.Mathlib.Omega.{arith}
-use lib.Dec.{eqb}
-use borrow.Author.Tests.{eqb-true, eq-eqb, ne_eqb}
 use Rattle.numbers.specs.Tables.{dwarf4, dwarf5}
 use Rattle.numbers.specs.Refusals.{bad_encoding}
 use Rattle.numbers.specs.Refused.{told, number_of}
 use Rattle.numbers.specs.declared.refusals.Refusal.{Refusal}
-use Rattle.octets.specs.Checked.{pass, refuse, mapped}
+use Rattle.octets.specs.Checked.{mapped}
 use Rattle.octets.proofs.Checks.{true_false, pass_refuse, pass_inj, refuse_inj, fails, passes, and_both, and_left, and_right, or_left, or_right}
 use Rattle.bundle.specs.Encoding.{Encoding, encoding_good}
 use Rattle.bundle.specs.Encoded.{four, encoding_is, encoding_checked}
@@ -41,21 +35,21 @@ one_of : (x n : ℕ) → (x ≡ 4) ⊎ (x ≡ n) → (eqb x 4 || eqb x n) ≡ tr
 one_of x n d = ⊎_elim (λ (h : x ≡ 4). or_left _ _ (eq-eqb x 4 h)) (λ (h : x ≡ n). or_right _ _ (eq-eqb x n h)) d
 
 module _ (e : Encoding) where
-  pub checked_good : encoding_good e ≡ true → encoding_checked e ≡ pass e
+  pub checked_good : encoding_good e ≡ true → encoding_checked e ≡ Ok e
   unfolding encoding_checked
   checked_good t = passes (encoding_good e) bad_encoding _ t
 
-  pub checked_bad : encoding_good e ≡ false → encoding_checked e ≡ refuse bad_encoding
+  pub checked_bad : encoding_good e ≡ false → encoding_checked e ≡ Err bad_encoding
   unfolding encoding_checked
   checked_bad t = fails (encoding_good e) bad_encoding _ t
 
   -- ---- the answer where each of the three is one of two
   pub word_passes : (e.version ≡ 4) ⊎ (e.version ≡ 5) → (e.width ≡ 4) ⊎ (e.width ≡ 8) → (e.address ≡ 4) ⊎ (e.address ≡ 8)
-      → mapped encoding_is (pass (record { big = e.big; five = eqb e.version 5; wide = eqb e.width 8; long = eqb e.address 8 })) ≡ encoding_checked e
+      → mapped encoding_is (Ok (record { big = e.big; five = eqb e.version 5; wide = eqb e.width 8; long = eqb e.address 8 })) ≡ encoding_checked e
   unfolding mapped encoding_good
   word_passes v w a =
       let g : encoding_good e ≡ true = and_both _ _ (and_both _ _ (one_of e.version 5 v) (one_of e.width 8 w)) (one_of e.address 8 a) in
-      ap pass (coded_is e g) ∙ sym (checked_good g)
+      ap Ok (coded_is e g) ∙ sym (checked_good g)
 
   -- ---- what an answer says
   pub word_good : (x : ObjectEncoding) → mapped encoding_is (told (Ok x)) ≡ encoding_checked e → (encoding_good e ≡ true) × (encoding_is x ≡ e)

@@ -1,5 +1,5 @@
 -- What holds of each one of a list.
-use mathlib.Core.List.{List, [], ◌∷◌}
+use Rattle.std.proofs.Common.{List, [], ◌∷◌}
 
 pub data Every {A : Type 0} (P : A → Type 0) : List A → Type 0 where
   nothing : Every P []

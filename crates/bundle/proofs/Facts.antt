@@ -1,12 +1,6 @@
 -- What a step says of the word that it reads and of what lies behind.
-use mathlib.Core.Path.{◌≡◌, refl}
-use mathlib.Core.Bool.{Bool, true, false}
-use mathlib.Core.List.{List}
-use Prim.Native.Nat.{ℕ, ◌+◌, ◌*◌, ◌-◌, ◌/◌, ◌%◌, ◌≤◌, ◌<◌}
-use native.Mathlib.Omega.{arith}
+use Rattle.std.proofs.Common.{◌≡◌, refl, Bool, true, false, List, ℕ, ◌+◌, ◌*◌, ◌-◌, ◌/◌, ◌%◌, ◌≤◌, ◌<◌, arith, eqb, length}
 use native.Mathlib.Decide.{dec_le, ℕ_discrete}
-use lib.Dec.{eqb}
-use lib.ListN.{length}
 use Rattle.octets.specs.Octets.{part, number_at}
 use Rattle.octets.specs.Lists.{all}
 use Rattle.bundle.specs.Bundle.{Part, object, section, Step, more, end, broken, filled_up, object_step, section_step, end_step, step_of, step_at}

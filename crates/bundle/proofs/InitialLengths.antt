@@ -1,13 +1,5 @@
 -- Laws of DWARF's initial length: by the width, and in bytes that begin alike.
-use mathlib.Core.Path.{◌≡◌, sym, ap, ◌∙◌}
-use mathlib.Core.Logic.{⊎_elim}
-use mathlib.Core.Bool.{Bool, true, false}
-use mathlib.Core.List.{List}
-use Prim.Native.Nat.{ℕ, ◌+◌, ◌≤◌, ◌<◌}
-use native.Mathlib.Omega.{arith}
-use lib.Dec.{eqb}
-use lib.ListN.{length, take, length-take}
-use borrow.Author.Tests.{ne_eqb}
+use Rattle.std.proofs.Common.{◌≡◌, sym, ap, ◌∙◌, ⊎_elim, Bool, true, false, List, ℕ, ◌+◌, ◌≤◌, ◌<◌, arith, eqb, length, take, length-take, ne_eqb}
 use Rattle.octets.specs.Octets.{part, number, number_at}
 use Rattle.octets.proofs.Checks.{known}
 use Rattle.octets.proofs.Numbers.{Bytes, bytes_part, number_lt_width}

@@ -1,9 +1,5 @@
 -- Items taken apart: the sections before the next object, what stands behind them, the objects.
-use mathlib.Core.Path.{◌≡◌, refl, ap}
-use mathlib.Core.Bool.{true}
-use mathlib.Core.List.{List, [], ◌∷◌, ◌++◌, map}
-use Prim.Native.Nat.{ℕ}
-use native.Mathlib.Omega.{arith}
+use Rattle.std.proofs.Common.{◌≡◌, refl, ap, true, List, [], ◌∷◌, ◌++◌, map, ℕ, arith}
 use Rattle.bundle.specs.Bundle.{Part, Item, object, section, leading, objects_of, object_first}
 
 -- what stands behind the leading sections

@@ -1,10 +1,6 @@
 -- What an answer of `next_item` says.
-use mathlib.Core.Path.{◌≡◌, refl, ap, sym, ◌∙◌}
-use mathlib.Core.List.{List}
-use Prim.Native.Nat.{ℕ, ◌+◌, ◌-◌, ◌/◌, ◌%◌, ◌≤◌, ◌<◌}
-use native.Mathlib.Omega.{arith}
-use lib.ListN.{length, drop, length-drop}
-use Rattle.octets.specs.Checked.{pass, refuse}
+use Rattle.std.proofs.Common.{◌≡◌, refl, ap, sym, ◌∙◌, List, ℕ, ◌+◌, ◌-◌, ◌/◌, ◌%◌, ◌≤◌, ◌<◌, arith, length, drop, length-drop}
+use Rattle.std.specs.Prelude.{Ok, Err}
 use Rattle.octets.proofs.Checks.{pass_refuse, refuse_inj}
 use Rattle.bundle.specs.Bundle.{Part, object, section, Step, more, end, broken, filled_up, step_at}
 use Rattle.bundle.specs.Next.{section_at, next_of}
@@ -46,7 +42,7 @@ pub filled_up_whole : (n : ℕ) → filled_up n % 4 ≡ 0
 unfolding filled_up
 filled_up_whole n = omega arith
 
-told_object : (at : ℕ) (s : List ℕ) (w next : ℕ) (st : Step) → Facts at s st → pass (Object w next) ≡ next_of at st
+told_object : (at : ℕ) (s : List ℕ) (w next : ℕ) (st : Step) → Facts at s st → Ok (Object w next) ≡ next_of at st
     → (st ≡ more (object w) 0) × (next ≡ at + 4) × (4 ≤ length s) × (w / 0x100_0000 ≡ 16)
 unfolding Facts next_of
 told_object at s w next (more (object v) n) f e =
@@ -57,7 +53,7 @@ told_object at s w next (more (section p) n) f e = absurd (let z : ◌≡◌ {A 
 told_object at s w next end f e = absurd (let z : ◌≡◌ {A = ℕ} 0 1 = cc in omega arith)
 told_object at s w next broken f e = absurd (pass_refuse (Object w next) 3 e)
 
-told_section : (at : ℕ) (s : List ℕ) (x : Section) (st : Step) → Facts at s st → pass (ASection x) ≡ next_of at st
+told_section : (at : ℕ) (s : List ℕ) (x : Section) (st : Step) → Facts at s st → Ok (ASection x) ≡ next_of at st
     → (n : ℕ) × (st ≡ more (section (part_of x)) n) × (x.next ≡ at + 4 + n) × SectionFacts at s (part_of x) n
 unfolding Facts next_of
 told_section at s x (more (object v) n) f e = absurd (let z : ◌≡◌ {A = ℕ} 0 1 = cc in omega arith)
@@ -68,14 +64,14 @@ told_section at s x (more (section p) n) f e =
 told_section at s x end f e = absurd (let z : ◌≡◌ {A = ℕ} 0 1 = cc in omega arith)
 told_section at s x broken f e = absurd (pass_refuse (ASection x) 3 e)
 
-told_end : (at : ℕ) (st : Step) → pass End ≡ next_of at st → st ≡ end
+told_end : (at : ℕ) (st : Step) → Ok End ≡ next_of at st → st ≡ end
 unfolding next_of
 told_end at (more (object v) n) e = absurd (let z : ◌≡◌ {A = ℕ} 0 1 = cc in omega arith)
 told_end at (more (section p) n) e = absurd (let z : ◌≡◌ {A = ℕ} 0 1 = cc in omega arith)
 told_end at end e = refl
 told_end at broken e = absurd (pass_refuse End 3 e)
 
-told_broken : (at k : ℕ) (st : Step) → refuse k ≡ next_of at st → (st ≡ broken) × (k ≡ 3)
+told_broken : (at k : ℕ) (st : Step) → Err k ≡ next_of at st → (st ≡ broken) × (k ≡ 3)
 unfolding next_of
 told_broken at k (more (object v) n) e = absurd (pass_refuse (Object v (at + 4 + n)) k (sym e))
 told_broken at k (more (section p) n) e = absurd (pass_refuse (ASection (section_at p (at + 4 + n))) k (sym e))
@@ -83,13 +79,13 @@ told_broken at k end e = absurd (pass_refuse End k (sym e))
 told_broken at k broken e = (refl, refuse_inj {A = Item} e)
 
 module _ (b : List ℕ) (at : ℕ) where
-  pub object_here : (word next : ℕ) → pass (Object word next) ≡ next_of at (step_at at (drop at b)) → ObjectHere b at word next
+  pub object_here : (word next : ℕ) → Ok (Object word next) ≡ next_of at (step_at at (drop at b)) → ObjectHere b at word next
   unfolding step_here
   object_here word next e =
       let f = told_object at (drop at b) word next (step_at at (drop at b)) (facts at (drop at b)) e in
       record { step = f.0; place = f.1; within = omega (arith, f.1, f.2, length-drop at b); kind = f.3 }
 
-  pub section_here : (x : Section) → pass (ASection x) ≡ next_of at (step_at at (drop at b)) → SectionHere b at x
+  pub section_here : (x : Section) → Ok (ASection x) ≡ next_of at (step_at at (drop at b)) → SectionHere b at x
   unfolding step_here
   section_here x e = go (told_section at (drop at b) x (step_at at (drop at b)) (facts at (drop at b)) e)
     where
@@ -107,10 +103,10 @@ module _ (b : List ℕ) (at : ℕ) where
       }
 
   -- behind either, less is left of the bundle
-  pub object_nearer : (word next : ℕ) → pass (Object word next) ≡ next_of at (step_at at (drop at b)) → length b - next < length b - at
+  pub object_nearer : (word next : ℕ) → Ok (Object word next) ≡ next_of at (step_at at (drop at b)) → length b - next < length b - at
   object_nearer word next e = let h = object_here word next e in omega (arith, h.place, h.within)
 
-  pub section_nearer : (x : Section) → pass (ASection x) ≡ next_of at (step_at at (drop at b)) → length b - x.next < length b - at
+  pub section_nearer : (x : Section) → Ok (ASection x) ≡ next_of at (step_at at (drop at b)) → length b - x.next < length b - at
   section_nearer x e = let h = section_here x e in omega (arith, h.place, h.inside, h.within)
 
   pub section_step : (p : Part) (n : ℕ) → step_here b at ≡ more (section p) n → SectionHere b at (section_at p (at + 4 + n))
@@ -121,16 +117,16 @@ module _ (b : List ℕ) (at : ℕ) where
   unfolding step_here next_of
   object_step w n e = object_here w (at + 4 + n) (ap (next_of at) (sym e))
 
-  pub end_here : pass End ≡ next_of at (step_at at (drop at b)) → step_here b at ≡ end
+  pub end_here : Ok End ≡ next_of at (step_at at (drop at b)) → step_here b at ≡ end
   unfolding step_here
   end_here e = told_end at (step_at at (drop at b)) e
 
   -- a refusal, whose number is 3
-  pub broken_here : (k : ℕ) → refuse k ≡ next_of at (step_at at (drop at b)) → step_here b at ≡ broken
+  pub broken_here : (k : ℕ) → Err k ≡ next_of at (step_at at (drop at b)) → step_here b at ≡ broken
   unfolding step_here
   broken_here k e = (told_broken at k (step_at at (drop at b)) e).0
 
-  pub broken_number : (k : ℕ) → refuse k ≡ next_of at (step_at at (drop at b)) → k ≡ 3
+  pub broken_number : (k : ℕ) → Err k ≡ next_of at (step_at at (drop at b)) → k ≡ 3
   broken_number k e = (told_broken at k (step_at at (drop at b)) e).1
 
   -- the end word is the last one

@@ -1,11 +1,6 @@
 -- Passes over a bundle that can be read: over one object's sections, and over the objects. Each law takes an answer of `next_item`.
-use mathlib.Core.Path.{◌≡◌, refl, ap, sym, ◌∙◌}
-use mathlib.Core.Bool.{true, false}
-use mathlib.Core.List.{List, [], ◌∷◌, ◌++◌, append-nil, append_assoc}
-use Prim.Native.Nat.{ℕ, ◌+◌, ◌/◌, ◌%◌, ◌≤◌}
-use native.Mathlib.Omega.{arith}
-use lib.ListN.{length, drop}
-use Rattle.octets.specs.Checked.{pass, refuse}
+use Rattle.std.proofs.Common.{◌≡◌, refl, ap, sym, ◌∙◌, true, false, List, [], ◌∷◌, ◌++◌, append-nil, append_assoc, ℕ, ◌+◌, ◌/◌, ◌%◌, ◌≤◌, arith, length, drop}
+use Rattle.std.specs.Prelude.{Ok, Err}
 use Rattle.bundle.specs.Bundle.{Part, Item, object, section, Object, Bundle, more, step_at, filled_up, leading, objects_of, object_first, bundle_of}
 use Rattle.bundle.specs.Next.{next_of}
 use Rattle.bundle.specs.Scan.{place_behind}
@@ -22,36 +17,36 @@ use Rattle.bundle.proofs.Items.{behind, behind_objects, behind_first}
 use Rattle.bundle.proofs.Whole.{readable}
 
 -- the items at the place where the leading sections end
-pub here_behind : (b : List ℕ) (at : ℕ) (is : List Item) → here b at ≡ pass is → here b (place_behind at (leading is)) ≡ pass (behind is)
+pub here_behind : (b : List ℕ) (at : ℕ) (is : List Item) → here b at ≡ Ok is → here b (place_behind at (leading is)) ≡ Ok (behind is)
 unfolding place_behind leading behind
 here_behind b at [] e = e
 here_behind b at (object w ∷ is) e = e
 here_behind b at (section p ∷ is) e = go (left_cons b at (section p) is e) (λ h. here_behind b (p.start + filled_up p.size) is h)
   where
-    go : (n : ℕ) × (step_here b at ≡ more (section p) n) × (here b (at + 4 + n) ≡ pass is)
-        → (here b (p.start + filled_up p.size) ≡ pass is → here b (place_behind (p.start + filled_up p.size) (leading is)) ≡ pass (behind is))
-        → here b (place_behind (p.start + filled_up p.size) (leading is)) ≡ pass (behind is)
+    go : (n : ℕ) × (step_here b at ≡ more (section p) n) × (here b (at + 4 + n) ≡ Ok is)
+        → (here b (p.start + filled_up p.size) ≡ Ok is → here b (place_behind (p.start + filled_up p.size) (leading is)) ≡ Ok (behind is))
+        → here b (place_behind (p.start + filled_up p.size) (leading is)) ≡ Ok (behind is)
     go (n, s, h) on = on (ap (here b) (sym (section_step b at p n s).behind) ∙ h)
 
 -- ---- one object's sections
 -- at a place the sections `done` are passed, of all that the object has
 pub record Walked (b : List ℕ) (at : ℕ) (done parts : List Part) : Type 0 where
   pub ahead : List Item
-  pub left : here b at ≡ pass ahead
+  pub left : here b at ≡ Ok ahead
   pub is : done ++ leading ahead ≡ parts
 
-pub walked_none : (b : List ℕ) (at : ℕ) (is : List Item) → here b at ≡ pass is → Walked b at [] (leading is)
+pub walked_none : (b : List ℕ) (at : ℕ) (is : List Item) → here b at ≡ Ok is → Walked b at [] (leading is)
 walked_none b at is e = record { ahead = is; left = e; is = refl }
 
 module _ (b : List ℕ) (at : ℕ) (done parts : List Part) (w : Walked b at done parts) where
-  pub walked_section : (x : Section) → pass (ASection x) ≡ next_of at (step_at at (drop at b)) → Walked b x.next (done ++ (part_of x ∷ [])) parts
+  pub walked_section : (x : Section) → Ok (ASection x) ≡ next_of at (step_at at (drop at b)) → Walked b x.next (done ++ (part_of x ∷ [])) parts
   unfolding leading
   walked_section x e =
       let h = section_here b at x e in
       let place : at + 4 + filled_up x.size ≡ x.next = omega (arith, h.behind, h.place) in
       go place (left_more b at w.ahead w.left (section (part_of x)) (filled_up x.size) h.step)
     where
-      go : at + 4 + filled_up x.size ≡ x.next → (rest : List Item) × (w.ahead ≡ section (part_of x) ∷ rest) × (here b (at + 4 + filled_up x.size) ≡ pass rest)
+      go : at + 4 + filled_up x.size ≡ x.next → (rest : List Item) × (w.ahead ≡ section (part_of x) ∷ rest) × (here b (at + 4 + filled_up x.size) ≡ Ok rest)
           → Walked b x.next (done ++ (part_of x ∷ [])) parts
       go place (rest, e, h) = record {
         ahead = rest;
@@ -59,25 +54,25 @@ module _ (b : List ℕ) (at : ℕ) (done parts : List Part) (w : Walked b at don
         is = append_assoc done (part_of x ∷ []) (leading rest) ∙ ap (λ (l : List Item). done ++ leading l) (sym e) ∙ w.is;
       }
 
-  pub walked_object : (word next : ℕ) → pass (AnObject word next) ≡ next_of at (step_at at (drop at b)) → done ≡ parts
+  pub walked_object : (word next : ℕ) → Ok (AnObject word next) ≡ next_of at (step_at at (drop at b)) → done ≡ parts
   unfolding leading
   walked_object word next e = go (left_more b at w.ahead w.left (object word) 0 (object_here b at word next e).step)
     where
-      go : (rest : List Item) × (w.ahead ≡ object word ∷ rest) × (here b (at + 4 + 0) ≡ pass rest) → done ≡ parts
+      go : (rest : List Item) × (w.ahead ≡ object word ∷ rest) × (here b (at + 4 + 0) ≡ Ok rest) → done ≡ parts
       go (rest, e, h) = sym (append-nil done) ∙ ap (λ (l : List Item). done ++ leading l) (sym e) ∙ w.is
 
-  pub walked_end : pass End ≡ next_of at (step_at at (drop at b)) → done ≡ parts
+  pub walked_end : Ok End ≡ next_of at (step_at at (drop at b)) → done ≡ parts
   unfolding leading
   walked_end e = sym (append-nil done) ∙ ap (λ (l : List Item). done ++ leading l) (sym (left_end b at w.ahead w.left (end_here b at e))) ∙ w.is
 
-  pub walked_broken : (k : ℕ) → refuse k ≡ next_of at (step_at at (drop at b)) → ⊥
+  pub walked_broken : (k : ℕ) → Err k ≡ next_of at (step_at at (drop at b)) → ⊥
   walked_broken k e = left_broken b at w.ahead w.left (broken_here b at k e)
 
 -- ---- the objects
 -- at a place that starts an object or is the end, the objects `done` are passed, of all that the bundle has
 pub record Objects (b : List ℕ) (at : ℕ) (done all : List Object) : Type 0 where
   pub rest : List Item
-  pub left : here b at ≡ pass rest
+  pub left : here b at ≡ Ok rest
   pub first : object_first rest ≡ true
   pub is : done ++ objects_of rest ≡ all
   pub whole : at % 4 ≡ 0
@@ -109,27 +104,27 @@ span_least (section p ∷ is) = omega (arith, span_least is)
 -- behind the word of the next object: its sections, and the pass goes on behind them
 pub record Entered (b : List ℕ) (next word : ℕ) (done all : List Object) : Type 0 where
   pub ahead : List Item
-  pub left : here b next ≡ pass ahead
+  pub left : here b next ≡ Ok ahead
   pub kind : word / 0x100_0000 ≡ 16
   pub lie : Every (Lies b) (leading ahead)
   pub further : next ≤ place_behind next (leading ahead)
   pub within : place_behind next (leading ahead) + 4 ≤ length b
   pub more : Objects b (place_behind next (leading ahead)) (done ++ (record { word = word; parts = leading ahead } ∷ [])) all
 
-pub objects_none : (b : List ℕ) (u : Bundle) → bundle_of b ≡ pass u → Objects b 4 [] u.objects
+pub objects_none : (b : List ℕ) (u : Bundle) → bundle_of b ≡ Ok u → Objects b 4 [] u.objects
 objects_none b u e = let r = readable b u e in record { rest = r.all; left = r.left; first = r.first; is = r.objects; whole = refl; far = omega arith }
 
 module _ (b : List ℕ) (at : ℕ) (done all : List Object) (o : Objects b at done all) where
-  pub objects_object : (word next : ℕ) → pass (AnObject word next) ≡ next_of at (step_at at (drop at b)) → Entered b next word done all
+  pub objects_object : (word next : ℕ) → Ok (AnObject word next) ≡ next_of at (step_at at (drop at b)) → Entered b next word done all
   unfolding objects_of
   objects_object word next e =
       let h = object_here b at word next e in
       let place : at + 4 + 0 ≡ next = omega (arith, h.place) in
       go place h.kind (left_more b at o.rest o.left (object word) 0 h.step)
     where
-      go : at + 4 + 0 ≡ next → word / 0x100_0000 ≡ 16 → (rest : List Item) × (o.rest ≡ object word ∷ rest) × (here b (at + 4 + 0) ≡ pass rest) → Entered b next word done all
+      go : at + 4 + 0 ≡ next → word / 0x100_0000 ≡ 16 → (rest : List Item) × (o.rest ≡ object word ∷ rest) × (here b (at + 4 + 0) ≡ Ok rest) → Entered b next word done all
       go place k (rest, e, h) =
-          let left : here b next ≡ pass rest = ap (here b) (sym place) ∙ h in
+          let left : here b next ≡ Ok rest = ap (here b) (sym place) ∙ h in
           let w : next % 4 ≡ 0 = omega (arith, o.whole) in
           let lie : Every (Lies b) (leading rest) = leading_lie b next rest left w (omega arith) in
           record {
@@ -151,28 +146,28 @@ module _ (b : List ℕ) (at : ℕ) (done all : List Object) (o : Objects b at do
             };
           }
 
-  pub objects_section : (x : Section) → pass (ASection x) ≡ next_of at (step_at at (drop at b)) → ⊥
+  pub objects_section : (x : Section) → Ok (ASection x) ≡ next_of at (step_at at (drop at b)) → ⊥
   unfolding object_first
   objects_section x e = go (left_more b at o.rest o.left (section (part_of x)) (filled_up x.size) (section_here b at x e).step)
     where
-      go : (rest : List Item) × (o.rest ≡ section (part_of x) ∷ rest) × (here b (at + 4 + filled_up x.size) ≡ pass rest) → ⊥
+      go : (rest : List Item) × (o.rest ≡ section (part_of x) ∷ rest) × (here b (at + 4 + filled_up x.size) ≡ Ok rest) → ⊥
       go (rest, e, h) =
           let f : false ≡ true = ap object_first (sym e) ∙ o.first in
           let z : ◌≡◌ {A = ℕ} 0 1 = cc in
           omega arith
 
-  pub objects_end : pass End ≡ next_of at (step_at at (drop at b)) → done ≡ all
+  pub objects_end : Ok End ≡ next_of at (step_at at (drop at b)) → done ≡ all
   unfolding objects_of
   objects_end e = sym (append-nil done) ∙ ap (λ (l : List Item). done ++ objects_of l) (sym (left_end b at o.rest o.left (end_here b at e))) ∙ o.is
 
-  pub objects_broken : (k : ℕ) → refuse k ≡ next_of at (step_at at (drop at b)) → ⊥
+  pub objects_broken : (k : ℕ) → Err k ≡ next_of at (step_at at (drop at b)) → ⊥
   objects_broken k e = left_broken b at o.rest o.left (broken_here b at k e)
 
   -- any other answer than an object: all are passed
-  pub objects_other : (x : Answered) → (tag_of the_type x ≡ 0 → ⊥) → pass x ≡ next_of at (step_at at (drop at b)) → done ≡ all
+  pub objects_other : (x : Answered) → (tag_of the_type x ≡ 0 → ⊥) → Ok x ≡ next_of at (step_at at (drop at b)) → done ≡ all
   objects_other (AnObject word next) f e = absurd (f (omega arith))
   objects_other (ASection x) f e = absurd (objects_section x e)
   objects_other End f e = objects_end e
 
-  pub objects_refused : (k : ℕ) → refuse k ≡ next_of at (step_at at (drop at b)) → done ≡ all
+  pub objects_refused : (k : ℕ) → Err k ≡ next_of at (step_at at (drop at b)) → done ≡ all
   objects_refused k e = absurd (objects_broken k e)

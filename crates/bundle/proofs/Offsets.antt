@@ -1,12 +1,6 @@
 -- How many bytes the str_offsets sections of a bundle have: item by item, object by object, and in a bundle whole.
-use mathlib.Core.Path.{◌≡◌, refl, ap, sym, ◌∙◌}
-use mathlib.Core.Bool.{Bool, true, false}
-use mathlib.Core.List.{List, [], ◌∷◌}
-use Prim.Native.Nat.{ℕ, ◌+◌, ◌≤◌}
-use native.Mathlib.Omega.{arith}
-use lib.Dec.{eqb}
-use lib.ListN.{length, drop}
-use Rattle.octets.specs.Checked.{Check, pass, refuse}
+use Rattle.std.proofs.Common.{◌≡◌, refl, ap, sym, ◌∙◌, Bool, true, false, List, [], ◌∷◌, ℕ, ◌+◌, ◌≤◌, arith, eqb, length, drop}
+use Rattle.std.specs.Prelude.{Result, Ok, Err}
 use Rattle.bundle.specs.Bundle.{Item, object, section, Bundle, step_at, filled_up, leading, first_part, bundle_of}
 use Rattle.bundle.specs.Next.{next_of}
 use Rattle.bundle.specs.Scan.{Reaches, place_behind, size_of, size_in, offsets_at, offsets_in, offsets_read, offsets_from}
@@ -22,7 +16,7 @@ use Rattle.bundle.proofs.Objects.{here_behind}
 use Rattle.bundle.proofs.Whole.{readable}
 
 -- ---- towards the definition
-offsets_ahead : (b : List ℕ) (at : ℕ) (is : List Item) → here b at ≡ pass is → offsets_from b at ≡ offsets_in is
+offsets_ahead : (b : List ℕ) (at : ℕ) (is : List Item) → here b at ≡ Ok is → offsets_from b at ≡ offsets_in is
 unfolding here offsets_from offsets_read
 offsets_ahead b at is e = ap offsets_read e
 
@@ -46,7 +40,7 @@ unfolding here
 offsets_within b at r = omega (arith, offsets_ahead b at r.ahead r.left, offsets_span r.ahead, here_span b at r.ahead r.left)
 
 -- a bundle that can be read does so from its first item on
-pub bundle_reaches : (b : List ℕ) (u : Bundle) → bundle_of b ≡ pass u → Reaches b 4
+pub bundle_reaches : (b : List ℕ) (u : Bundle) → bundle_of b ≡ Ok u → Reaches b 4
 unfolding here
 bundle_reaches b u e = let r = readable b u e in record { ahead = r.all; left = r.left }
 
@@ -62,7 +56,7 @@ offsets_leading (section p ∷ is) = go (eqb p.code 6) refl (offsets_leading is)
     go true t h = rw (size_of, first_part, offsets_at, t) (omega (arith, h))
     go false t h = rw (size_of, first_part, offsets_at, t) (omega (arith, h))
 
-pub offsets_behind : (b : List ℕ) (at : ℕ) (is : List Item) → here b at ≡ pass is → size_of (leading is) 6 + offsets_from b (place_behind at (leading is)) ≤ offsets_from b at
+pub offsets_behind : (b : List ℕ) (at : ℕ) (is : List Item) → here b at ≡ Ok is → size_of (leading is) 6 + offsets_from b (place_behind at (leading is)) ≤ offsets_from b at
 offsets_behind b at is e =
     omega (arith, offsets_leading is, offsets_ahead b at is e, offsets_ahead b (place_behind at (leading is)) (behind is) (here_behind b at is e))
 
@@ -78,36 +72,36 @@ counted_none b r = record { reaches = r; is = omega arith; within = omega (arith
 
 module _ (b : List ℕ) (at : ℕ) where
   -- an object's word has none
-  pub offsets_object : (word next : ℕ) → pass (Object word next) ≡ next_of at (step_at at (drop at b)) → offsets_from b next ≡ offsets_from b at
+  pub offsets_object : (word next : ℕ) → Ok (Object word next) ≡ next_of at (step_at at (drop at b)) → offsets_from b next ≡ offsets_from b at
   unfolding here before offsets_from offsets_read offsets_in
   offsets_object word next e = go (here b next) ∙ ap offsets_read (sym (object_there b at word next e))
     where
-      go : (c : Check (List Item)) → offsets_read c ≡ offsets_read (before (object word) c)
-      go (pass is) = refl
-      go (refuse n) = refl
+      go : (c : Result (List Item) ℕ) → offsets_read c ≡ offsets_read (before (object word) c)
+      go (Ok is) = refl
+      go (Err n) = refl
 
   module _ (size : ℕ) (c : Counted b at size) where
-    pub counted_object : (word next : ℕ) → pass (Object word next) ≡ next_of at (step_at at (drop at b)) → Counted b next size
+    pub counted_object : (word next : ℕ) → Ok (Object word next) ≡ next_of at (step_at at (drop at b)) → Counted b next size
     unfolding here
     counted_object word next e =
         let h = object_here b at word next e in
         go (left_more b at c.reaches.ahead c.reaches.left (object word) 0 h.step) (omega (arith, h.place))
       where
-        go : (rest : List Item) × (c.reaches.ahead ≡ object word ∷ rest) × (here b (at + 4 + 0) ≡ pass rest) → at + 4 + 0 ≡ next → Counted b next size
+        go : (rest : List Item) × (c.reaches.ahead ≡ object word ∷ rest) × (here b (at + 4 + 0) ≡ Ok rest) → at + 4 + 0 ≡ next → Counted b next size
         go (rest, q, k) place = record { reaches = record { ahead = rest; left = ap (here b) (sym place) ∙ k }; is = omega (arith, offsets_object word next e, c.is); within = c.within }
 
     -- a section more
-    module _ (x : Section) (e : pass (ASection x) ≡ next_of at (step_at at (drop at b))) where
-      section_rest : (rest : List Item) × (here b x.next ≡ pass rest) × (offsets_from b at ≡ offsets_at x.code x.size + offsets_from b x.next)
+    module _ (x : Section) (e : Ok (ASection x) ≡ next_of at (step_at at (drop at b))) where
+      section_rest : (rest : List Item) × (here b x.next ≡ Ok rest) × (offsets_from b at ≡ offsets_at x.code x.size + offsets_from b x.next)
       unfolding here offsets_in
       section_rest =
           let h = section_here b at x e in
           go (left_more b at c.reaches.ahead c.reaches.left (section (part_of x)) (filled_up x.size) h.step) (omega (arith, h.place, h.behind))
         where
-          go : (rest : List Item) × (c.reaches.ahead ≡ section (part_of x) ∷ rest) × (here b (at + 4 + filled_up x.size) ≡ pass rest) → at + 4 + filled_up x.size ≡ x.next
-              → (rest : List Item) × (here b x.next ≡ pass rest) × (offsets_from b at ≡ offsets_at x.code x.size + offsets_from b x.next)
+          go : (rest : List Item) × (c.reaches.ahead ≡ section (part_of x) ∷ rest) × (here b (at + 4 + filled_up x.size) ≡ Ok rest) → at + 4 + filled_up x.size ≡ x.next
+              → (rest : List Item) × (here b x.next ≡ Ok rest) × (offsets_from b at ≡ offsets_at x.code x.size + offsets_from b x.next)
           go (rest, q, k) place =
-              let l : here b x.next ≡ pass rest = ap (here b) (sym place) ∙ k in
+              let l : here b x.next ≡ Ok rest = ap (here b) (sym place) ∙ k in
               (rest, l, offsets_ahead b at c.reaches.ahead c.reaches.left ∙ ap offsets_in q ∙ ap (λ (n : ℕ). offsets_at x.code x.size + n) (sym (offsets_ahead b x.next rest l)))
 
       pub counted_section : Counted b x.next (size + offsets_at x.code x.size)
@@ -117,11 +111,11 @@ module _ (b : List ℕ) (at : ℕ) where
       pub counted_less : size + offsets_at x.code x.size ≤ length b
       counted_less = let r = section_rest in omega (arith, r.2, c.is, c.within)
 
-    pub counted_end : pass End ≡ next_of at (step_at at (drop at b)) → size ≡ offsets_from b 4
+    pub counted_end : Ok End ≡ next_of at (step_at at (drop at b)) → size ≡ offsets_from b 4
     unfolding here offsets_in
     counted_end e =
         omega (arith, c.is, offsets_ahead b at c.reaches.ahead c.reaches.left ∙ ap offsets_in (left_end b at c.reaches.ahead c.reaches.left (end_here b at e)))
 
-    pub counted_refused : (k : ℕ) → refuse k ≡ next_of at (step_at at (drop at b)) → size ≡ offsets_from b 4
+    pub counted_refused : (k : ℕ) → Err k ≡ next_of at (step_at at (drop at b)) → size ≡ offsets_from b 4
     unfolding here
     counted_refused k e = absurd (left_broken b at c.reaches.ahead c.reaches.left (broken_here b at k e))

@@ -1,10 +1,5 @@
 -- A bundle written front to back into an output that is zero behind.
-use mathlib.Core.Path.{◌≡◌, refl, ap, sym, ◌∙◌}
-use mathlib.Core.Bool.{Bool, true, false}
-use mathlib.Core.List.{List, [], ◌++◌, append_assoc}
-use Prim.Native.Nat.{ℕ, ◌+◌, ◌*◌, ◌-◌, ◌/◌, ◌≤◌}
-use native.Mathlib.Omega.{arith}
-use lib.ListN.{length, length-append}
+use Rattle.std.proofs.Common.{◌≡◌, refl, ap, sym, ◌∙◌, Bool, true, false, List, [], ◌++◌, append_assoc, ℕ, ◌+◌, ◌*◌, ◌-◌, ◌/◌, ◌≤◌, arith, length, length-append}
 use Rattle.octets.specs.Octets.{placed, padded, zeros}
 use Rattle.octets.proofs.Numbers.{length_bytes_of}
 use Rattle.octets.proofs.Placed.{length_zeros, placed_placed, padded_step, padded_zeros}

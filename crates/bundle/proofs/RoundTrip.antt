@@ -1,14 +1,8 @@
 -- The round trip: reading a written bundle gives its objects and sections back, within the size limits.
-use mathlib.Core.Path.{◌≡◌, refl, ap, sym, ◌∙◌}
-use mathlib.Core.Bool.{Bool, true, false}
-use mathlib.Core.List.{List, [], ◌∷◌, ◌++◌, map, append-nil, append_assoc}
-use Prim.Native.Nat.{ℕ, ◌+◌, ◌*◌, ◌/◌, ◌%◌, ◌≤◌, ◌<◌}
-use native.Mathlib.Omega.{arith}
-use lib.ListN.{length, drop, length-append}
-use lib.Seq.{drop_at}
+use Rattle.std.proofs.Common.{◌≡◌, refl, ap, sym, ◌∙◌, Bool, true, false, List, [], ◌∷◌, ◌++◌, map, append-nil, append_assoc, ℕ, ◌+◌, ◌*◌, ◌/◌, ◌%◌, ◌≤◌, ◌<◌, arith, length, drop, length-append, drop_at}
 use Rattle.octets.specs.Octets.{number_at}
 use Rattle.octets.specs.Lists.{joined}
-use Rattle.octets.specs.Checked.{pass}
+use Rattle.std.specs.Prelude.{Ok}
 use Rattle.octets.proofs.Numbers.{number_at_first}
 use Rattle.bundle.specs.Bundle.{Part, Item, object, section, Object, filled_up, items, leading, objects_of, object_first, bundle_of}
 use Rattle.bundle.specs.Written.{Section, Sections, word_bytes, head_bytes, section_bytes, object_bytes, end_bytes, written}
@@ -46,7 +40,6 @@ items_of at (o ∷ os) = object o.word ∷ (map section (parts_from (at + 4) o.s
 
 -- ---- lengths
 pub length_sections : (x : Section) (xs : List Section) → length (joined (map section_bytes (x ∷ xs))) ≡ 4 + filled_up (length x.bytes) + length (joined (map section_bytes xs))
-unfolding joined
 length_sections x xs = length-append (section_bytes x) (joined (map section_bytes xs)) ∙ ap (λ (n : ℕ). n + length (joined (map section_bytes xs))) (length_section x)
 
 pub length_object : (o : Sections) → length (object_bytes o) ≡ 4 + length (joined (map section_bytes o.sections))
@@ -62,12 +55,10 @@ length_written big os =
     ∙ omega (arith, length-append (head_bytes big) j, length_head big, length_end (length (head_bytes big ++ j)))
 
 sections_whole : (xs : List Section) → length (joined (map section_bytes xs)) % 4 ≡ 0
-unfolding joined
 sections_whole [] = refl
 sections_whole (x ∷ xs) = omega (arith, length_sections x xs, sections_whole xs, filled_up_whole (length x.bytes))
 
 pub objects_whole : (os : List Sections) → length (joined (map object_bytes os)) % 4 ≡ 0
-unfolding joined
 objects_whole [] = refl
 objects_whole (o ∷ os) =
     omega (arith, length-append (object_bytes o) (joined (map object_bytes os)), length_object o, sections_whole o.sections, objects_whole os)
@@ -75,7 +66,7 @@ objects_whole (o ∷ os) =
 -- ---- items
 sections_again : (at : ℕ) (xs : List Section) (s : List ℕ) → Every Storable xs
     → items at (joined (map section_bytes xs) ++ s) ≡ prepend (map section (parts_from at xs)) (items (at + length (joined (map section_bytes xs))) s)
-unfolding joined parts_from
+unfolding parts_from
 sections_again at [] s g =
     let e : at ≡ at + 0 = omega arith in
     ap (λ (k : ℕ). items k s) e ∙ sym (prepend_nil (items (at + 0) s))
@@ -102,7 +93,7 @@ object_items at o s p =
 
 objects_again : (at : ℕ) (os : List Sections) (s : List ℕ) → Every Storables os
     → items at (joined (map object_bytes os) ++ s) ≡ prepend (items_of at os) (items (at + length (joined (map object_bytes os))) s)
-unfolding joined items_of
+unfolding items_of
 objects_again at [] s g =
     let e : at ≡ at + 0 = omega arith in
     ap (λ (k : ℕ). items k s) e ∙ sym (prepend_nil (items (at + 0) s))
@@ -142,7 +133,7 @@ module _ (big : Bool) (os : List Sections) (good : Every Storables os) (small : 
       either true s = number_at_first false 4 0xF000_0001 s (omega arith)
       either false s = number_at_first false 4 0xF000_0000 s (omega arith)
 
-  written_items : here (written big os) 4 ≡ pass (items_of 4 os)
+  written_items : here (written big os) 4 ≡ Ok (items_of 4 os)
   unfolding here written prepend end_bytes
   written_items =
       let j = joined (map object_bytes os) in
@@ -152,9 +143,9 @@ module _ (big : Bool) (os : List Sections) (good : Every Storables os) (small : 
       ap (items 4) (ap (drop 4) (append_assoc (head_bytes big) j e) ∙ drop_at (head_bytes big) (j ++ e) 4 (length_head big))
       ∙ objects_again 4 os e good
       ∙ ap (prepend (items_of 4 os)) (items_last (4 + length j) ((length (head_bytes big ++ j) + 4) / 4) words (omega (arith, n, length_written big os)))
-      ∙ ap pass (append-nil (items_of 4 os))
+      ∙ ap Ok (append-nil (items_of 4 os))
 
-  pub written_bundle : bundle_of (written big os) ≡ pass (record { big = big; objects = objects_from 4 os })
+  pub written_bundle : bundle_of (written big os) ≡ Ok (record { big = big; objects = objects_from 4 os })
   written_bundle =
       bundle_good (written big os) big head_again (items_of 4 os) written_items (items_first 4 os)
-      ∙ ap (λ (l : List Object). pass (record { big = big; objects = l })) (items_objects 4 os)
+      ∙ ap (λ (l : List Object). Ok (record { big = big; objects = l })) (items_objects 4 os)

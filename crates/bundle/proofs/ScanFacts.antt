@@ -1,12 +1,7 @@
 -- What a scan says, for those who call `scan_object` in a bundle that can be read.
-use mathlib.Core.Path.{◌≡◌, refl, ap, ap₂, sym, ◌∙◌}
-use mathlib.Core.List.{List}
-use mathlib.Core.Option.{Option, some, none}
-use Prim.Native.Nat.{ℕ, ◌+◌, ◌≤◌, ◌<◌}
-use native.Mathlib.Omega.{arith}
-use lib.ListN.{length, drop, get_or}
+use Rattle.std.proofs.Common.{◌≡◌, refl, ap, ap₂, sym, ◌∙◌, List, ℕ, ◌+◌, ◌≤◌, ◌<◌, arith, length, drop, get_or}
+use Rattle.std.specs.Prelude.{Option, Some, None, Ok}
 use Rattle.octets.specs.Octets.{part}
-use Rattle.octets.specs.Checked.{pass}
 use Rattle.bundle.specs.Bundle.{Part, Item, items, leading, count, first_part, body}
 use Rattle.bundle.specs.Scan.{sections_of, place_behind, start_in, size_in, start_of, size_of, scan_of}
 use Rattle.bundle.specs.declared.Scan.{Scan}
@@ -17,7 +12,7 @@ use Rattle.bundle.proofs.Scanned.{by_code_at}
 use Rattle.bundle.proofs.Lies.{Lies, first_is}
 
 -- what `scan_object` and `next_unit_section` require, and what they speak of
-module _ (b : List ℕ) (at : ℕ) (is : List Item) (e : here b at ≡ pass is) where
+module _ (b : List ℕ) (at : ℕ) (is : List Item) (e : here b at ≡ Ok is) where
   pub left_sections : sections_of (items at (drop at b)) ≡ leading is
   unfolding here sections_of
   left_sections = ap sections_of e
@@ -50,5 +45,5 @@ module _ (b : List ℕ) (ps : List Part) (c : ℕ) (lie : Every (Lies b) ps) whe
   first_within = go (first_part ps c) refl
     where
       go : (o : Option Part) → first_part ps c ≡ o → start_in o + size_in o ≤ length b
-      go (some p) e = (first_is ps c p lie e).0.within
-      go none e = omega arith
+      go (Some p) e = (first_is ps c p lie e).0.within
+      go None e = omega arith

@@ -1,14 +1,7 @@
 -- A scan of one object's sections, section by section.
-use mathlib.Core.Path.{◌≡◌, refl, ap, sym, ◌∙◌}
-use mathlib.Core.List.{List, [], ◌∷◌, ◌++◌}
-use mathlib.Core.Option.{Option, some, none}
-use Prim.Native.Nat.{ℕ, zero, suc, ◌+◌, ◌<◌}
-use native.Mathlib.Omega.{arith}
+use Rattle.std.proofs.Common.{◌≡◌, refl, ap, sym, ◌∙◌, List, [], ◌∷◌, ◌++◌, ℕ, zero, suc, ◌+◌, ◌<◌, arith, not-suc-le-zero, length, get_or, set, length-set, ext_get_or, get_or-set_same, get_or-set_other, eq-eqb, ne_eqb}
+use Rattle.std.specs.Prelude.{Option, Some, None}
 use native.Mathlib.Decide.{ℕ_discrete}
-use native.Mathlib.Nat.{not-suc-le-zero}
-use lib.ListN.{length, get_or, set, length-set}
-use lib.Seq.{ext_get_or, get_or-set_same, get_or-set_other}
-use borrow.Author.Tests.{eq-eqb, ne_eqb}
 use Rattle.bundle.specs.Bundle.{Part, filled_up, count, first_part}
 use Rattle.bundle.specs.Scan.{place_behind, start_in, size_in, start_of, size_of, numbered, by_code, scan_of, noted}
 use Rattle.bundle.specs.Next.{section_at}
@@ -86,17 +79,17 @@ module _ (ps : List Part) (p : Part) where
   first_kept c f = go (first_part ps c) refl
     where
       go : (o : Option Part) → first_part ps c ≡ o → first_part (ps ++ (p ∷ [])) c ≡ first_part ps c
-      go (some q) e = first_some c ps (p ∷ []) q e ∙ sym e
-      go none e = first_none c ps (p ∷ []) e ∙ first_other c p [] f ∙ sym e
+      go (Some q) e = first_some c ps (p ∷ []) q e ∙ sym e
+      go None e = first_none c ps (p ∷ []) e ∙ first_other c p [] f ∙ sym e
 
   first_stays : (c : ℕ) → (count ps c ≡ 0 → ⊥) → first_part (ps ++ (p ∷ [])) c ≡ first_part ps c
   first_stays c f = go (first_part ps c) refl
     where
       go : (o : Option Part) → first_part ps c ≡ o → first_part (ps ++ (p ∷ [])) c ≡ first_part ps c
-      go (some q) e = first_some c ps (p ∷ []) q e ∙ sym e
-      go none e = absurd (f (counted_none c ps e))
+      go (Some q) e = first_some c ps (p ∷ []) q e ∙ sym e
+      go None e = absurd (f (counted_none c ps e))
 
-  first_new : count ps p.code ≡ 0 → first_part (ps ++ (p ∷ [])) p.code ≡ some p
+  first_new : count ps p.code ≡ 0 → first_part (ps ++ (p ∷ [])) p.code ≡ Some p
   first_new e = first_none p.code ps (p ∷ []) (none_counted p.code ps e) ∙ first_same p.code p [] refl
 
   -- where the sections stand one behind the other

@@ -1,10 +1,6 @@
 -- A loop that scans one object's sections: what it keeps.
-use mathlib.Core.Path.{◌≡◌, ap, ◌∙◌}
-use mathlib.Core.List.{List, [], ◌∷◌, ◌++◌}
-use Prim.Native.Nat.{ℕ, ◌+◌, ◌*◌, ◌≤◌, ◌<◌}
-use native.Mathlib.Omega.{arith}
-use lib.ListN.{length, drop, get_or, length-append}
-use Rattle.octets.specs.Checked.{pass, refuse}
+use Rattle.std.proofs.Common.{◌≡◌, ap, ◌∙◌, List, [], ◌∷◌, ◌++◌, ℕ, ◌+◌, ◌*◌, ◌≤◌, ◌<◌, arith, length, drop, get_or, length-append}
+use Rattle.std.specs.Prelude.{Ok, Err}
 use Rattle.bundle.specs.Bundle.{Part, step_at, items, count}
 use Rattle.bundle.specs.Next.{next_of}
 use Rattle.bundle.specs.Scan.{Reaches, Notable, sections_of, place_behind, scan_of, noted}
@@ -38,7 +34,7 @@ scanned_none b from scan e r =
     }
 
 module _ (b : List ℕ) (from : ℕ) (scan : Scan) (s : Scanned b from scan) where
-  module _ (x : Section) (e : pass (ASection x) ≡ next_of scan.next (step_at scan.next (drop scan.next b))) where
+  module _ (x : Section) (e : Ok (ASection x) ≡ next_of scan.next (step_at scan.next (drop scan.next b))) where
     pub scanned_notable : length b < 0x1_0000_0000_0000_0000 → Notable scan x.code
     unfolding scan_of
     scanned_notable l =
@@ -61,23 +57,23 @@ module _ (b : List ℕ) (from : ℕ) (scan : Scan) (s : Scanned b from scan) whe
           far = rw (noted_next scan x, length-append) (omega (arith, s.far, h.place, h.inside));
         }
 
-  pub scanned_object : (word next : ℕ) → pass (Object word next) ≡ next_of scan.next (step_at scan.next (drop scan.next b))
+  pub scanned_object : (word next : ℕ) → Ok (Object word next) ≡ next_of scan.next (step_at scan.next (drop scan.next b))
       → scan ≡ scan_of from (sections_of (items from (drop from b)))
   scanned_object word next e = s.is ∙ ap (scan_of from) (walked_object b scan.next s.done _ s.walked word next e)
 
-  pub scanned_end : pass End ≡ next_of scan.next (step_at scan.next (drop scan.next b)) → scan ≡ scan_of from (sections_of (items from (drop from b)))
+  pub scanned_end : Ok End ≡ next_of scan.next (step_at scan.next (drop scan.next b)) → scan ≡ scan_of from (sections_of (items from (drop from b)))
   scanned_end e = s.is ∙ ap (scan_of from) (walked_end b scan.next s.done _ s.walked e)
 
-  pub scanned_broken : (k : ℕ) → refuse k ≡ next_of scan.next (step_at scan.next (drop scan.next b)) → ⊥
+  pub scanned_broken : (k : ℕ) → Err k ≡ next_of scan.next (step_at scan.next (drop scan.next b)) → ⊥
   scanned_broken k e = walked_broken b scan.next s.done _ s.walked k e
 
   -- any other answer than a section
-  pub scanned_other : (x : Item) → (tag_of the_type x ≡ 1 → ⊥) → pass x ≡ next_of scan.next (step_at scan.next (drop scan.next b)) → scan ≡ scan_of from (sections_of (items from (drop from b)))
+  pub scanned_other : (x : Item) → (tag_of the_type x ≡ 1 → ⊥) → Ok x ≡ next_of scan.next (step_at scan.next (drop scan.next b)) → scan ≡ scan_of from (sections_of (items from (drop from b)))
   scanned_other (Object word next) f e = scanned_object word next e
   scanned_other (ASection x) f e = absurd (f (omega arith))
   scanned_other End f e = scanned_end e
 
-  pub scanned_refused : (k : ℕ) → refuse k ≡ next_of scan.next (step_at scan.next (drop scan.next b)) → scan ≡ scan_of from (sections_of (items from (drop from b)))
+  pub scanned_refused : (k : ℕ) → Err k ≡ next_of scan.next (step_at scan.next (drop scan.next b)) → scan ≡ scan_of from (sections_of (items from (drop from b)))
   scanned_refused k e = absurd (scanned_broken k e)
 
 pub ruleset scanning = (section_nearer, noted_next, scanned_none, scanned_more, scanned_other, scanned_refused)

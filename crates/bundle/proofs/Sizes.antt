@@ -1,12 +1,7 @@
 -- Sums of sizes: of a bundle written, and of the sections of a bundle that can be read.
-use mathlib.Core.Path.{◌≡◌, refl, ap, sym, ◌∙◌}
-use mathlib.Core.Bool.{Bool}
-use mathlib.Core.List.{List, [], ◌∷◌, map}
-use Prim.Native.Nat.{ℕ, ◌+◌, ◌≤◌}
-use native.Mathlib.Omega.{arith}
-use lib.ListN.{length, length-append}
+use Rattle.std.proofs.Common.{◌≡◌, refl, ap, sym, ◌∙◌, Bool, List, [], ◌∷◌, map, ℕ, ◌+◌, ◌≤◌, arith, length, length-append}
 use Rattle.octets.specs.Lists.{joined, sum}
-use Rattle.octets.specs.Checked.{pass}
+use Rattle.std.specs.Prelude.{Ok}
 use Rattle.bundle.specs.Bundle.{Part, Item, object, section, Object, Bundle, filled_up, leading, objects_of, bundle_of}
 use Rattle.bundle.specs.Written.{Section, Sections, section_bytes, object_bytes, written}
 use Rattle.bundle.proofs.Next.{filled_up_le}
@@ -22,12 +17,12 @@ unfoldable pub object_size : Sections → ℕ
 object_size o = 4 + sum (map section_size o.sections)
 
 pub sections_size : (xs : List Section) → length (joined (map section_bytes xs)) ≡ sum (map section_size xs)
-unfolding joined sum section_size
+unfolding sum section_size
 sections_size [] = refl
 sections_size (x ∷ xs) = length_sections x xs ∙ ap (λ (n : ℕ). 4 + filled_up (length x.bytes) + n) (sections_size xs)
 
 pub objects_size : (os : List Sections) → length (joined (map object_bytes os)) ≡ sum (map object_size os)
-unfolding joined sum object_size
+unfolding sum object_size
 objects_size [] = refl
 objects_size (o ∷ os) =
     length-append (object_bytes o) (joined (map object_bytes os))
@@ -51,7 +46,7 @@ items_size [] = omega arith
 items_size (object w ∷ is) = omega (arith, items_size is)
 items_size (section p ∷ is) = omega (arith, items_size is, filled_up_le p.size)
 
-pub bundle_totals : (b : List ℕ) (u : Bundle) → bundle_of b ≡ pass u → totals u.objects + 8 ≤ length b
+pub bundle_totals : (b : List ℕ) (u : Bundle) → bundle_of b ≡ Ok u → totals u.objects + 8 ≤ length b
 bundle_totals b u e =
     let r = readable b u e in
     rw (sym r.objects) (omega (arith, items_size r.all, here_span b 4 r.all r.left))

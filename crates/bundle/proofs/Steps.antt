@@ -1,10 +1,7 @@
 -- The recursion of `items` without its bound on steps: one law for each case of a step.
-use mathlib.Core.Path.{◌≡◌, refl, ap, ◌∙◌}
-use mathlib.Core.List.{List, [], ◌∷◌}
-use Prim.Native.Nat.{ℕ, zero, suc, ◌+◌, ◌≤◌}
-use native.Mathlib.Omega.{arith}
-use lib.ListN.{length, drop, length-drop}
-use Rattle.octets.specs.Checked.{Check, pass, refuse, ◌>>=◌}
+use Rattle.std.proofs.Common.{◌≡◌, refl, ap, ◌∙◌, List, [], ◌∷◌, ℕ, zero, suc, ◌+◌, ◌≤◌, arith, length, drop, length-drop}
+use Rattle.std.specs.Prelude.{Result, Ok, Err}
+use Rattle.octets.specs.Checked.{◌>>=◌}
 use Rattle.bundle.specs.Bundle.{Item, more, end, broken, step_at, followed, items_from, items}
 
 -- any two bounds that are large enough give the same
@@ -21,14 +18,14 @@ enough (suc k) (suc j) at (b ∷ r) h g =
     (λ i n. enough k j (at + 4 + n) (drop (4 + n) (b ∷ r)) (simp length-drop (omega arith)) (simp length-drop (omega arith)) i)
 
 -- i stands before what follows
-unfoldable pub before : Item → Check (List Item) → Check (List Item)
-before i (pass is) = pass (i ∷ is)
-before i (refuse n) = refuse n
+unfoldable pub before : Item → Result (List Item) ℕ → Result (List Item) ℕ
+before i (Ok is) = Ok (i ∷ is)
+before i (Err n) = Err n
 
-before_is : (i : Item) (c : Check (List Item)) → (c >>= (λ is. pass (i ∷ is))) ≡ before i c
+before_is : (i : Item) (c : Result (List Item) ℕ) → (c >>= (λ is. Ok (i ∷ is))) ≡ before i c
 unfolding before ◌>>=◌
-before_is i (pass is) = refl
-before_is i (refuse n) = refl
+before_is i (Ok is) = refl
+before_is i (Err n) = refl
 
 pub items_step : (at : ℕ) (s : List ℕ) → items at s ≡ followed (step_at at s) (λ n. items (at + 4 + n) (drop (4 + n) s))
 unfolding items items_from step_at followed
@@ -38,11 +35,11 @@ items_step at (b ∷ r) =
     (λ i n. enough (length r) (length (drop (4 + n) (b ∷ r))) (at + 4 + n) (drop (4 + n) (b ∷ r)) (simp length-drop (omega arith)) (omega arith) i)
 
 module _ (at : ℕ) (s : List ℕ) where
-  pub items_broken : step_at at s ≡ broken → items at s ≡ refuse 3
+  pub items_broken : step_at at s ≡ broken → items at s ≡ Err 3
   unfolding followed
   items_broken e = items_step at s ∙ rw e
 
-  pub items_end : step_at at s ≡ end → items at s ≡ pass []
+  pub items_end : step_at at s ≡ end → items at s ≡ Ok []
   unfolding followed
   items_end e = items_step at s ∙ rw e
 

@@ -1,17 +1,9 @@
 -- A walk over the sections of one object that hold units, in the order of the bundle.
-use mathlib.Core.Path.{◌≡◌, refl, ap, sym, ◌∙◌}
-use mathlib.Core.Bool.{Bool, true, false}
-use mathlib.Core.List.{List, [], ◌∷◌, ◌++◌, append-nil}
-use mathlib.Core.Option.{Option, some, none}
-use Prim.Native.Nat.{ℕ, ◌+◌, ◌≤◌, ◌<◌}
-use native.Mathlib.Omega.{arith}
+use Rattle.std.proofs.Common.{◌≡◌, refl, ap, sym, ◌∙◌, Bool, true, false, List, [], ◌∷◌, ◌++◌, append-nil, ℕ, ◌+◌, ◌≤◌, ◌<◌, arith, length, drop, eq-eqb, ne_eqb}
+use Rattle.std.specs.Prelude.{Option, Some, None, Result, Ok, Err}
 use native.Mathlib.Decide.{ℕ_discrete}
-use lib.ListN.{length, drop}
-use borrow.Author.Tests.{eq-eqb, ne_eqb}
-use Rattle.std.specs.Prelude.{Some, None}
 use Rattle.octets.specs.Options.{found}
 use Rattle.octets.specs.Lists.{those}
-use Rattle.octets.specs.Checked.{Check, pass, refuse}
 use Rattle.octets.proofs.Lists.{those_keeps, those_skips}
 use Rattle.bundle.specs.Bundle.{Part, Item, object, section, more, filled_up, step_at, items, leading}
 use Rattle.bundle.specs.Next.{section_at, next_of}
@@ -36,7 +28,7 @@ module _ (p : Part) where
   unfolding holds_units
   units_no h = rw (holds_units, ne_eqb p.code 1 (λ z. omega arith), ne_eqb p.code 2 (λ z. omega arith))
 
-  pub units_first : (ps : List Part) → holds_units p ≡ true → unit_section_of (p ∷ ps) ≡ some (section_at p (p.start + filled_up p.size))
+  pub units_first : (ps : List Part) → holds_units p ≡ true → unit_section_of (p ∷ ps) ≡ Some (section_at p (p.start + filled_up p.size))
   unfolding unit_section_of
   units_first ps e = rw (unit_section_of, e)
 
@@ -48,24 +40,24 @@ module _ (p : Part) where
 -- from here on the same is found
 pub record Seeking (b : List ℕ) (from at : ℕ) : Type 0 where
   pub ahead : List Item
-  pub left : here b at ≡ pass ahead
+  pub left : here b at ≡ Ok ahead
   pub is : unit_section_of (leading ahead) ≡ unit_section_of (sections_of (items from (drop from b)))
 
 pub seeking_none : (b : List ℕ) (from : ℕ) → Reaches b from → Seeking b from from
 unfolding here sections_of
-seeking_none b from r = record { ahead = r.ahead; left = r.left; is = sym (ap (λ (c : Check (List Item)). unit_section_of (sections_of c)) r.left) }
+seeking_none b from r = record { ahead = r.ahead; left = r.left; is = sym (ap (λ (c : Result (List Item) ℕ). unit_section_of (sections_of c)) r.left) }
 
 module _ (b : List ℕ) (from at : ℕ) (k : Seeking b from at) where
-  module _ (x : Section) (e : pass (ASection x) ≡ next_of at (step_at at (drop at b))) where
-    next_one : (rest : List Item) × (k.ahead ≡ section (part_of x) ∷ rest) × (here b (at + 4 + filled_up x.size) ≡ pass rest)
+  module _ (x : Section) (e : Ok (ASection x) ≡ next_of at (step_at at (drop at b))) where
+    next_one : (rest : List Item) × (k.ahead ≡ section (part_of x) ∷ rest) × (here b (at + 4 + filled_up x.size) ≡ Ok rest)
     next_one = left_more b at k.ahead k.left (section (part_of x)) (filled_up x.size) (section_here b at x e).step
 
-    pub seeking_found : x.code < 3 → some x ≡ unit_section_of (sections_of (items from (drop from b)))
+    pub seeking_found : x.code < 3 → Some x ≡ unit_section_of (sections_of (items from (drop from b)))
     unfolding leading
     seeking_found h =
         let f = section_here b at x e in
         let n = next_one in
-        ap (λ (m : ℕ). some (section_at (part_of x) m)) f.behind ∙ sym (units_first (part_of x) (leading n.0) (units_yes (part_of x) f.least h))
+        ap (λ (m : ℕ). Some (section_at (part_of x) m)) f.behind ∙ sym (units_first (part_of x) (leading n.0) (units_yes (part_of x) f.least h))
         ∙ ap (λ (l : List Item). unit_section_of (leading l)) (sym n.1) ∙ k.is
 
     pub seeking_more : 3 ≤ x.code → Seeking b from x.next
@@ -80,41 +72,41 @@ module _ (b : List ℕ) (from at : ℕ) (k : Seeking b from at) where
           is = sym (units_later (part_of x) (leading n.0) (units_no (part_of x) h)) ∙ ap (λ (l : List Item). unit_section_of (leading l)) (sym n.1) ∙ k.is;
         }
 
-  seeking_object : (word next : ℕ) → pass (Object word next) ≡ next_of at (step_at at (drop at b)) → none ≡ unit_section_of (sections_of (items from (drop from b)))
+  seeking_object : (word next : ℕ) → Ok (Object word next) ≡ next_of at (step_at at (drop at b)) → None ≡ unit_section_of (sections_of (items from (drop from b)))
   unfolding leading unit_section_of
   seeking_object word next e =
       let n = left_more b at k.ahead k.left (object word) 0 (object_here b at word next e).step in
       ap (λ (l : List Item). unit_section_of (leading l)) (sym n.1) ∙ k.is
 
-  seeking_end : pass End ≡ next_of at (step_at at (drop at b)) → none ≡ unit_section_of (sections_of (items from (drop from b)))
+  seeking_end : Ok End ≡ next_of at (step_at at (drop at b)) → None ≡ unit_section_of (sections_of (items from (drop from b)))
   unfolding leading unit_section_of
   seeking_end e = ap (λ (l : List Item). unit_section_of (leading l)) (sym (left_end b at k.ahead k.left (end_here b at e))) ∙ k.is
 
   -- any other answer than a section
-  pub seeking_other : (x : Answered) → (tag_of the_type x ≡ 1 → ⊥) → pass x ≡ next_of at (step_at at (drop at b)) → none ≡ unit_section_of (sections_of (items from (drop from b)))
+  pub seeking_other : (x : Answered) → (tag_of the_type x ≡ 1 → ⊥) → Ok x ≡ next_of at (step_at at (drop at b)) → None ≡ unit_section_of (sections_of (items from (drop from b)))
   seeking_other (Object word next) f e = seeking_object word next e
   seeking_other (ASection x) f e = absurd (f (omega arith))
   seeking_other End f e = seeking_end e
 
-  pub seeking_refused : (n : ℕ) → refuse n ≡ next_of at (step_at at (drop at b)) → none ≡ unit_section_of (sections_of (items from (drop from b)))
+  pub seeking_refused : (n : ℕ) → Err n ≡ next_of at (step_at at (drop at b)) → None ≡ unit_section_of (sections_of (items from (drop from b)))
   seeking_refused n e = absurd (left_broken b at k.ahead k.left (broken_here b at n e))
 
 pub ruleset seeking = (section_nearer, seeking_none, seeking_found, seeking_more, seeking_other, seeking_refused)
 
 -- ---- what `next_unit_section` answers, as the definition says it
-pub found_some : {A : Type 0} (x : A) (m : Option A) → Some x ≡ found m → some x ≡ m
-found_some x (some y) e = cc
-found_some x none e = absurd (let z : ◌≡◌ {A = ℕ} 0 1 = cc in omega arith)
+pub found_some : {A : Type 0} (x : A) (m : Option A) → Some x ≡ found m → Some x ≡ m
+found_some x (Some y) e = cc
+found_some x None e = absurd (let z : ◌≡◌ {A = ℕ} 0 1 = cc in omega arith)
 
-pub found_none : {A : Type 0} (m : Option A) → None ≡ found m → none ≡ m
-found_none (some y) e = absurd (let z : ◌≡◌ {A = ℕ} 0 1 = cc in omega arith)
-found_none none e = refl
+pub found_none : {A : Type 0} (m : Option A) → None ≡ found m → None ≡ m
+found_none (Some y) e = absurd (let z : ◌≡◌ {A = ℕ} 0 1 = cc in omega arith)
+found_none None e = refl
 
 -- ---- a loop over all of them: each law takes an answer of `next_unit_section`
 -- what an answer says of the place behind the section
 pub record UnitsHere (b : List ℕ) (at : ℕ) (is : List Item) (x : Section) : Type 0 where
   pub ahead : List Item
-  pub left : here b x.next ≡ pass ahead
+  pub left : here b x.next ≡ Ok ahead
   pub first : unit_parts (leading is) ≡ part_of x ∷ unit_parts (leading ahead)
   pub units : holds_units (part_of x) ≡ true
   pub further : at < x.next
@@ -122,18 +114,18 @@ pub record UnitsHere (b : List ℕ) (at : ℕ) (is : List Item) (x : Section) : 
   pub within : x.next ≤ length b
   pub behind : at + 4 ≤ x.start
 
-found_here : (b : List ℕ) (at : ℕ) (is : List Item) (x : Section) → here b at ≡ pass is → some x ≡ unit_section_of (leading is) → UnitsHere b at is x
+found_here : (b : List ℕ) (at : ℕ) (is : List Item) (x : Section) → here b at ≡ Ok is → Some x ≡ unit_section_of (leading is) → UnitsHere b at is x
 unfolding leading unit_section_of unit_parts
 found_here b at [] x e f = absurd (let z : ◌≡◌ {A = ℕ} 0 1 = cc in omega arith)
 found_here b at (object w ∷ is) x e f = absurd (let z : ◌≡◌ {A = ℕ} 0 1 = cc in omega arith)
 found_here b at (section p ∷ is) x e f = go (left_cons b at (section p) is e) (holds_units p) refl (λ k h g. found_here b k is x h g)
   where
-    go : (n : ℕ) × (step_here b at ≡ more (section p) n) × (here b (at + 4 + n) ≡ pass is) → (t : Bool) → holds_units p ≡ t
-        → ((k : ℕ) → here b k ≡ pass is → some x ≡ unit_section_of (leading is) → UnitsHere b k is x)
+    go : (n : ℕ) × (step_here b at ≡ more (section p) n) × (here b (at + 4 + n) ≡ Ok is) → (t : Bool) → holds_units p ≡ t
+        → ((k : ℕ) → here b k ≡ Ok is → Some x ≡ unit_section_of (leading is) → UnitsHere b k is x)
         → UnitsHere b at (section p ∷ is) x
     go (n, s, h) true u on =
         let g = section_step b at p n s in
-        let r : some x ≡ some (section_at p (p.start + filled_up p.size)) = f ∙ units_first p (leading is) u in
+        let r : Some x ≡ Some (section_at p (p.start + filled_up p.size)) = f ∙ units_first p (leading is) u in
         let y : x ≡ section_at p (p.start + filled_up p.size) = cc in
         let same : p ≡ part_of x = sym (ap part_of y) in
         let m : x.next ≡ p.start + filled_up p.size = ap (λ (z : Section). z.next) y in
@@ -162,19 +154,19 @@ found_here b at (section p ∷ is) x e f = go (left_cons b at (section p) is e) 
           behind = omega (arith, r.behind);
         }
 
-none_units : (ps : List Part) → none ≡ unit_section_of ps → unit_parts ps ≡ []
-unfolding unit_parts those
+none_units : (ps : List Part) → None ≡ unit_section_of ps → unit_parts ps ≡ []
+unfolding unit_parts
 none_units [] f = refl
 none_units (p ∷ ps) f = go (holds_units p) refl (λ g. none_units ps g)
   where
-    go : (t : Bool) → holds_units p ≡ t → (none ≡ unit_section_of ps → unit_parts ps ≡ []) → unit_parts (p ∷ ps) ≡ []
+    go : (t : Bool) → holds_units p ≡ t → (None ≡ unit_section_of ps → unit_parts ps ≡ []) → unit_parts (p ∷ ps) ≡ []
     go true u on = absurd (let r = units_first p ps u in let z : ◌≡◌ {A = ℕ} 0 1 = cc in omega arith)
     go false u on = those_skips holds_units p ps u ∙ on (f ∙ units_later p ps u)
 
 -- at a place the sections `done` are passed, of all that hold units in the object
 pub record UnitsLeft (b : List ℕ) (at : ℕ) (done all : List Part) : Type 0 where
   pub ahead : List Item
-  pub left : here b at ≡ pass ahead
+  pub left : here b at ≡ Ok ahead
   pub is : done ++ unit_parts (leading ahead) ≡ all
 
 module _ (b : List ℕ) (at : ℕ) (done all : List Part) (l : UnitsLeft b at done all) where
@@ -185,10 +177,10 @@ module _ (b : List ℕ) (at : ℕ) (done all : List Part) (l : UnitsLeft b at do
 
   seen : unit_section_of (sections_of (items at (drop at b))) ≡ unit_section_of (leading l.ahead)
   unfolding here sections_of
-  seen = ap (λ (c : Check (List Item)). unit_section_of (sections_of c)) l.left
+  seen = ap (λ (c : Result (List Item) ℕ). unit_section_of (sections_of c)) l.left
 
-  pub units_here : (x : Section) → some x ≡ unit_section_of (sections_of (items at (drop at b))) → UnitsHere b at l.ahead x
+  pub units_here : (x : Section) → Some x ≡ unit_section_of (sections_of (items at (drop at b))) → UnitsHere b at l.ahead x
   units_here x e = found_here b at l.ahead x l.left (e ∙ seen)
 
-  pub units_done : none ≡ unit_section_of (sections_of (items at (drop at b))) → done ≡ all
+  pub units_done : None ≡ unit_section_of (sections_of (items at (drop at b))) → done ≡ all
   units_done e = sym (append-nil done) ∙ ap (λ (ps : List Part). done ++ ps) (sym (none_units (leading l.ahead) (e ∙ seen))) ∙ l.is

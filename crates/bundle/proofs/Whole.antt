@@ -1,19 +1,14 @@
 -- The laws of `bundle_of`: what it says where it passes, and each way in which it refuses.
-use mathlib.Core.Path.{◌≡◌, refl, sym, ◌∙◌}
-use mathlib.Core.Bool.{Bool, true, false, ◌||◌}
-use mathlib.Core.List.{List}
-use Prim.Native.Nat.{ℕ}
-use native.Mathlib.Omega.{arith}
-use lib.Dec.{eqb}
-use borrow.Author.Tests.{ne_eqb}
+use Rattle.std.proofs.Common.{◌≡◌, refl, sym, ◌∙◌, Bool, true, false, ◌||◌, List, ℕ, arith, eqb, ne_eqb}
 use Rattle.octets.specs.Octets.{number_at}
-use Rattle.octets.specs.Checked.{Check, pass, refuse, ◌>>=◌, require}
+use Rattle.std.specs.Prelude.{Result, Ok, Err}
+use Rattle.octets.specs.Checked.{◌>>=◌, require}
 use Rattle.bundle.specs.Bundle.{Item, Bundle, objects_of, object_first, bundle_of}
 use Rattle.bundle.proofs.Passed.{here}
 
 -- the checks that follow the head
-unfoldable behind_head : Bool → Check (List Item) → Check Bundle
-behind_head big c = c >>= (λ is. require (object_first is) 3 >>= (λ _. pass (record { big = big; objects = objects_of is })))
+unfoldable behind_head : Bool → Result (List Item) ℕ → Result Bundle ℕ
+behind_head big c = c >>= (λ is. require (object_first is) 3 >>= (λ _. Ok (record { big = big; objects = objects_of is })))
 
 unfoldable head_good : ℕ → Bool
 head_good h = eqb h 0xF000_0000 || eqb h 0xF000_0001
@@ -36,7 +31,7 @@ module _ (b : List ℕ) where
   unfolding bundle_of behind_head head_good here
   by_head = refl
 
-  pub bundle_head : (number_at false 4 b 0 ≡ 0xF000_0000 → ⊥) → (number_at false 4 b 0 ≡ 0xF000_0001 → ⊥) → bundle_of b ≡ refuse 3
+  pub bundle_head : (number_at false 4 b 0 ≡ 0xF000_0000 → ⊥) → (number_at false 4 b 0 ≡ 0xF000_0001 → ⊥) → bundle_of b ≡ Err 3
   unfolding head_good require ◌>>=◌
   bundle_head f g = by_head ∙ rw (head_good, ne_eqb (number_at false 4 b 0) 0xF000_0000 f, ne_eqb (number_at false 4 b 0) 0xF000_0001 g)
 
@@ -50,38 +45,38 @@ module _ (b : List ℕ) where
         either true = refl
         either false = refl
 
-    pub bundle_items : (n : ℕ) → here b 4 ≡ refuse n → bundle_of b ≡ refuse n
+    pub bundle_items : (n : ℕ) → here b 4 ≡ Err n → bundle_of b ≡ Err n
     unfolding behind_head ◌>>=◌
     bundle_items n h = good_head ∙ rw h
 
-    pub bundle_section : (is : List Item) → here b 4 ≡ pass is → object_first is ≡ false → bundle_of b ≡ refuse 3
+    pub bundle_section : (is : List Item) → here b 4 ≡ Ok is → object_first is ≡ false → bundle_of b ≡ Err 3
     unfolding behind_head ◌>>=◌ require
     bundle_section is h f = good_head ∙ rw (h, behind_head, f)
 
-    pub bundle_good : (is : List Item) → here b 4 ≡ pass is → object_first is ≡ true → bundle_of b ≡ pass (record { big = big; objects = objects_of is })
+    pub bundle_good : (is : List Item) → here b 4 ≡ Ok is → object_first is ≡ true → bundle_of b ≡ Ok (record { big = big; objects = objects_of is })
     unfolding behind_head ◌>>=◌ require
     bundle_good is h f = good_head ∙ rw (h, behind_head, f)
 
 -- what a bundle that passes is made of
 pub record Readable (b : List ℕ) (u : Bundle) : Type 0 where
   pub all : List Item
-  pub left : here b 4 ≡ pass all
+  pub left : here b 4 ≡ Ok all
   pub first : object_first all ≡ true
   pub objects : objects_of all ≡ u.objects
 
-pub readable : (b : List ℕ) (u : Bundle) → bundle_of b ≡ pass u → Readable b u
+pub readable : (b : List ℕ) (u : Bundle) → bundle_of b ≡ Ok u → Readable b u
 unfolding require ◌>>=◌ behind_head
 readable b u e = head (head_good (number_at false 4 b 0)) (sym (by_head b) ∙ e)
   where
-    first : (is : List Item) → here b 4 ≡ pass is → (t : Bool) → object_first is ≡ t
-        → (require t 3 >>= (λ _. pass (record { big = eqb (number_at false 4 b 0) 0xF000_0001; objects = objects_of is }))) ≡ pass u → Readable b u
+    first : (is : List Item) → here b 4 ≡ Ok is → (t : Bool) → object_first is ≡ t
+        → (require t 3 >>= (λ _. Ok (record { big = eqb (number_at false 4 b 0) 0xF000_0001; objects = objects_of is }))) ≡ Ok u → Readable b u
     first is h true f p = record { all = is; left = h; first = f; objects = cc }
     first is h false f p = absurd (let z : ◌≡◌ {A = ℕ} 0 1 = cc in omega arith)
 
-    rest : (c : Check (List Item)) → here b 4 ≡ c → behind_head (eqb (number_at false 4 b 0) 0xF000_0001) c ≡ pass u → Readable b u
-    rest (pass is) h p = first is h (object_first is) refl p
-    rest (refuse n) h p = absurd (let z : ◌≡◌ {A = ℕ} 0 1 = cc in omega arith)
+    rest : (c : Result (List Item) ℕ) → here b 4 ≡ c → behind_head (eqb (number_at false 4 b 0) 0xF000_0001) c ≡ Ok u → Readable b u
+    rest (Ok is) h p = first is h (object_first is) refl p
+    rest (Err n) h p = absurd (let z : ◌≡◌ {A = ℕ} 0 1 = cc in omega arith)
 
-    head : (t : Bool) → (require t 3 >>= (λ _. behind_head (eqb (number_at false 4 b 0) 0xF000_0001) (here b 4))) ≡ pass u → Readable b u
+    head : (t : Bool) → (require t 3 >>= (λ _. behind_head (eqb (number_at false 4 b 0) 0xF000_0001) (here b 4))) ≡ Ok u → Readable b u
     head true p = rest (here b 4) refl p
     head false p = absurd (let z : ◌≡◌ {A = ℕ} 0 1 = cc in omega arith)

@@ -1,14 +1,7 @@
 -- The sections of one object that is written: where each one lies, its code, and how many bytes they take.
-use mathlib.Core.Path.{◌≡◌, refl, sym, ap, ◌∙◌, subst}
-use mathlib.Core.Logic.{⊎_elim}
-use mathlib.Core.Bool.{Bool, true, false}
-use mathlib.Core.List.{List, [], ◌∷◌, ◌++◌, map, append_assoc}
-use mathlib.Core.Option.{some, none}
-use Prim.Native.Nat.{ℕ, ◌+◌, ◌-◌, ◌*◌, ◌≤◌}
-use native.Mathlib.Omega.{arith}
-use lib.Dec.{eqb}
-use lib.ListN.{length, length-append}
-use borrow.Author.Tests.{eqb-true, eqb-false}
+use Rattle.std.proofs.Common.{◌≡◌, refl, sym, ap, ◌∙◌, subst, ⊎_elim, Bool, true, false, List, [], ◌∷◌, ◌++◌, map, append_assoc, ℕ, ◌+◌, ◌-◌, ◌*◌, ◌≤◌, arith, eqb, length, length-append, eqb-true}
+use Rattle.std.specs.Prelude.{if◌then◌else◌, Some, None}
+use borrow.Author.Tests.{eqb-false}
 use Rattle.octets.specs.Octets.{part, zeros}
 use Rattle.octets.specs.Lists.{joined, those, any, has, distinct}
 use Rattle.octets.proofs.Checks.{known, true_false}
@@ -19,7 +12,6 @@ use Rattle.bundle.specs.Bundle.{Part, filled_up, first_part, parts_of, count}
 use Rattle.bundle.specs.Written.{Section, word_bytes, section_bytes}
 use Rattle.bundle.proofs.Putting.{length_word, length_section}
 use Rattle.bundle.proofs.RoundTrip.{parts_from}
-use Rattle.std.specs.Prelude.{if◌then◌else◌}
 
 -- ---- sections by code
 unfoldable pub is_of : ℕ → Section → Bool
@@ -56,7 +48,7 @@ bytes_none (s ∷ ss) c e = ⊎_elim
 
 -- ---- where the first one of a code lies
 first_part_here : (at : ℕ) (s : Section) (ss : List Section) (c : ℕ) → is_of c s ≡ true
-    → first_part (parts_from at (s ∷ ss)) c ≡ some (record { code = s.code; start = at + 4; size = length s.bytes })
+    → first_part (parts_from at (s ∷ ss)) c ≡ Some (record { code = s.code; start = at + 4; size = length s.bytes })
 unfolding first_part parts_from is_of
 first_part_here at s ss c e = rw (first_part, e)
 
@@ -65,7 +57,7 @@ first_part_later : (at : ℕ) (s : Section) (ss : List Section) (c : ℕ) → is
 unfolding first_part parts_from is_of
 first_part_later at s ss c e = rw (first_part, e)
 
-pub no_part : (at : ℕ) (ss : List Section) (c : ℕ) → any (is_of c) ss ≡ false → first_part (parts_from at ss) c ≡ none
+pub no_part : (at : ℕ) (ss : List Section) (c : ℕ) → any (is_of c) ss ≡ false → first_part (parts_from at ss) c ≡ None
 unfolding first_part parts_from
 no_part at [] c e = refl
 no_part at (s ∷ ss) c e = ⊎_elim
@@ -76,7 +68,7 @@ no_part at (s ∷ ss) c e = ⊎_elim
 -- in p, the section of a code that parts list has these bytes
 pub record SectionIn (p : List ℕ) (ps : List Part) (c : ℕ) (s : List ℕ) : Type 0 where
   pub lies : Part
-  pub is : first_part ps c ≡ some lies
+  pub is : first_part ps c ≡ Some lies
   pub size : lies.size ≡ length s
   pub bytes : part p lies.start (length s) ≡ s
 
@@ -96,7 +88,6 @@ own_bytes x s rest =
 
 pub section_in : (x : List ℕ) (ss : List Section) (rest : List ℕ) (c : ℕ) → any (is_of c) ss ≡ true
     → SectionIn (x ++ (joined (map section_bytes ss) ++ rest)) (parts_from (length x) ss) c (bytes_in ss c)
-unfolding any joined
 section_in x [] rest c e = absurd (true_false e refl)
 section_in x (s ∷ ss) rest c e =
     let all = joined (map section_bytes ss) in
@@ -126,7 +117,7 @@ abbrev pub codes_of : List Section → List ℕ
 codes_of ss = map (λ s. s.code) ss
 
 pub any_code : (ss : List Section) (c : ℕ) → any (is_of c) ss ≡ has (codes_of ss) c
-unfolding any has
+unfolding has
 any_code [] c = refl
 any_code (s ∷ ss) c = ⊎_elim
     (λ (t : is_of c s ≡ true). any_stops (is_of c) s ss t ∙ sym (has_cons c s.code (codes_of ss) (sym (code_is s c t))))
@@ -144,7 +135,7 @@ count_later at s ss c e =
     ap length (those_skips (λ (p : Part). eqb p.code c) (record { code = s.code; start = at + 4; size = length s.bytes }) (parts_from (at + 4 + filled_up (length s.bytes)) ss) e)
 
 count_none : (at : ℕ) (ss : List Section) (c : ℕ) → has (codes_of ss) c ≡ false → count (parts_from at ss) c ≡ 0
-unfolding parts_from count parts_of those
+unfolding parts_from count parts_of
 count_none at [] c e = refl
 count_none at (s ∷ ss) c e = ⊎_elim
     (λ (t : is_of c s ≡ true). absurd (true_false (has_cons c s.code (codes_of ss) (sym (code_is s c t))) e))
@@ -152,7 +143,7 @@ count_none at (s ∷ ss) c e = ⊎_elim
     (known (is_of c s))
 
 pub count_once : (at : ℕ) (ss : List Section) (c : ℕ) → distinct (codes_of ss) ≡ true → count (parts_from at ss) c ≤ 1
-unfolding parts_from count parts_of those
+unfolding parts_from count parts_of
 count_once at [] c d = omega arith
 count_once at (s ∷ ss) c d = ⊎_elim
     (λ (t : is_of c s ≡ true). omega (

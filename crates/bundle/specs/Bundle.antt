@@ -1,12 +1,11 @@
 -- A bundle is little-endian 32-bit words, whose bits 28 to 31 are the word's kind: head, object, section with its bytes, end.
 -- Whatever is not so breaks the word format (3; FORMAT 2.1 and 2.3).
-use Rattle.std.specs.Prelude.{Bool, true, false, ◌&&◌, ◌||◌, List, [], ◌∷◌, ℕ, zero, suc, ◌+◌, ◌*◌, ◌-◌, ◌/◌, ◌%◌, length, drop, ◌==◌, nat_eq, nat_le, nat_lt, if◌then◌else◌}
-use Rattle.std.proofs.Math.Option.{Option, some, none}
+use Rattle.std.specs.Prelude.{Bool, true, false, ◌&&◌, ◌||◌, List, [], ◌∷◌, ℕ, zero, suc, ◌+◌, ◌*◌, ◌-◌, ◌/◌, ◌%◌, length, drop, ◌==◌, nat_eq, nat_le, nat_lt, if◌then◌else◌, Option, Some, None, Result, Ok, Err}
 use Rattle.numbers.specs.Sections.{info_code, tu_index_code}
 use Rattle.numbers.specs.Refusals.{bad_words}
 use Rattle.octets.specs.Octets.{part, number_at}
 use Rattle.octets.specs.Lists.{all, those}
-use Rattle.octets.specs.Checked.{Check, pass, refuse, ◌>>=◌, require}
+use Rattle.octets.specs.Checked.{◌>>=◌, require}
 
 -- where a section's bytes lie in the bundle
 pub record Part : Type 0 where
@@ -59,19 +58,19 @@ step_at at s =
     then broken
     else step_of at s (number_at false 4 s 0 / 0x1000_0000) (number_at false 4 s 0 % 0x1000_0000)
 
-unfoldable pub followed : Step → (ℕ → Check (List Item)) → Check (List Item)
+unfoldable pub followed : Step → (ℕ → Result (List Item) ℕ) → Result (List Item) ℕ
 followed (more i n) rest = do
   is ← rest n
-  pass (i ∷ is)
-followed end rest = pass []
-followed broken rest = refuse bad_words
+  Ok (i ∷ is)
+followed end rest = Ok []
+followed broken rest = Err bad_words
 
 -- the items from a place on, up to the bundle's end; the first argument bounds the number of steps
-unfoldable pub items_from : ℕ → ℕ → List ℕ → Check (List Item)
-items_from zero at s = refuse bad_words
+unfoldable pub items_from : ℕ → ℕ → List ℕ → Result (List Item) ℕ
+items_from zero at s = Err bad_words
 items_from (suc k) at s = followed (step_at at s) (λ n. items_from k (at + 4 + n) (drop (4 + n) s))
 
-unfoldable pub items : ℕ → List ℕ → Check (List Item)
+unfoldable pub items : ℕ → List ℕ → Result (List Item) ℕ
 items at s = items_from (length s) at s
 
 -- an object's word, and its sections in the order of the bundle
@@ -101,13 +100,13 @@ pub record Bundle : Type 0 where
   pub objects : List Object
 
 -- 3: a head first, then items up to the end, none before an object
-unfoldable pub bundle_of : List ℕ → Check Bundle
+unfoldable pub bundle_of : List ℕ → Result Bundle ℕ
 bundle_of b = do
   let head = number_at false 4 b 0
   _ ← require (head == 0xF000_0000 || head == 0xF000_0001) bad_words
   is ← items 4 (drop 4 b)
   _ ← require (object_first is) bad_words
-  pass (record { big = head == 0xF000_0001; objects = objects_of is })
+  Ok (record { big = head == 0xF000_0001; objects = objects_of is })
 
 -- 1 and 21: the length is 8 or more, within the limit and a multiple of 4
 unfoldable pub length_good : ℕ → List ℕ → Bool
@@ -123,9 +122,9 @@ count ps c = length (parts_of ps c)
 
 -- the first one of a code
 unfoldable pub first_part : List Part → ℕ → Option Part
-first_part [] c = none
-first_part (p ∷ ps) c = if p.code == c then some p else first_part ps c
+first_part [] c = None
+first_part (p ∷ ps) c = if p.code == c then Some p else first_part ps c
 
 -- its bytes in the bundle b, none where there is none
 unfoldable pub body : List ℕ → List Part → ℕ → List ℕ
-body b ps c = elim (first_part ps c) [ some p ↦ part b p.start p.size | none ↦ [] ]
+body b ps c = elim (first_part ps c) [ Some p ↦ part b p.start p.size | None ↦ [] ]

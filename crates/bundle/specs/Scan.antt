@@ -1,9 +1,7 @@
 -- The sections of one object, listed by code: how many there are, and where the first lies. And how many bytes the str_offsets sections of a bundle have.
-use Rattle.std.specs.Prelude.{◌≡◌, Bool, true, false, ◌||◌, List, [], ◌∷◌, ℕ, zero, suc, ◌+◌, ◌<◌, drop, set, ◌==◌, slice_index, if◌then◌else◌}
-use Rattle.std.proofs.Math.Option.{Option, some, none}
+use Rattle.std.specs.Prelude.{◌≡◌, Bool, true, false, ◌||◌, List, [], ◌∷◌, ℕ, zero, suc, ◌+◌, ◌<◌, drop, set, ◌==◌, slice_index, if◌then◌else◌, Option, Some, None, Result, Ok, Err}
 use Rattle.numbers.specs.Sections.{info_code, types_code, str_offsets_code, section_codes}
 use Rattle.octets.specs.Lists.{those}
-use Rattle.octets.specs.Checked.{Check, pass, refuse}
 use Rattle.bundle.specs.Bundle.{Part, Item, object, section, filled_up, items, leading, count, first_part}
 use Rattle.bundle.specs.Next.{section_at}
 use Rattle.bundle.specs.declared.Scan.{Scan}
@@ -15,18 +13,18 @@ place_behind at [] = at
 place_behind at (p ∷ ps) = place_behind (p.start + filled_up p.size) ps
 
 -- the sections before the next object, none where the items cannot be read
-unfoldable pub sections_of : Check (List Item) → List Part
-sections_of (pass is) = leading is
-sections_of (refuse n) = []
+unfoldable pub sections_of : Result (List Item) ℕ → List Part
+sections_of (Ok is) = leading is
+sections_of (Err n) = []
 
 -- where a section lies, 0 and 0 where there is none
 unfoldable pub start_in : Option Part → ℕ
-start_in (some p) = p.start
-start_in none = 0
+start_in (Some p) = p.start
+start_in None = 0
 
 unfoldable pub size_in : Option Part → ℕ
-size_in (some p) = p.size
-size_in none = 0
+size_in (Some p) = p.size
+size_in None = 0
 
 -- the first one of a code
 unfoldable pub start_of : List Part → ℕ → ℕ
@@ -57,7 +55,7 @@ noted s x =
 -- the items from a place of a bundle on reach its end: what `bundle_of` has found
 pub record Reaches (b : List ℕ) (at : ℕ) : Type 0 where
   pub ahead : List Item
-  pub left : items at (drop at b) ≡ pass ahead
+  pub left : items at (drop at b) ≡ Ok ahead
 
 -- a section of the code can be counted
 pub record Notable (s : Scan) (code : ℕ) : Type 0 where
@@ -73,10 +71,10 @@ unit_parts ps = those holds_units ps
 
 -- the first one, with the place behind it
 unfoldable pub unit_section_of : List Part → Option Section
-unit_section_of [] = none
+unit_section_of [] = None
 unit_section_of (p ∷ ps) =
     if holds_units p
-    then some (section_at p (p.start + filled_up p.size))
+    then Some (section_at p (p.start + filled_up p.size))
     else unit_section_of ps
 
 -- ---- the str_offsets sections of all objects
@@ -90,9 +88,9 @@ offsets_in [] = 0
 offsets_in (object w ∷ is) = offsets_in is
 offsets_in (section p ∷ is) = offsets_at p.code p.size + offsets_in is
 
-unfoldable pub offsets_read : Check (List Item) → ℕ
-offsets_read (pass is) = offsets_in is
-offsets_read (refuse n) = 0
+unfoldable pub offsets_read : Result (List Item) ℕ → ℕ
+offsets_read (Ok is) = offsets_in is
+offsets_read (Err n) = 0
 
 -- from a place of a bundle on
 unfoldable pub offsets_from : List ℕ → ℕ → ℕ

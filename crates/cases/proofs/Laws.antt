@@ -1,10 +1,5 @@
 -- Where slots and records lie, and the length of an index.
-use mathlib.Core.Path.{◌≡◌, sym, ap, ◌∙◌}
-use mathlib.Core.List.{List}
-use Prim.Native.Nat.{ℕ, ◌+◌, ◌≤◌}
-use native.Mathlib.Nat.{mul-le-mul_right}
-use native.Mathlib.Omega.{arith}
-use lib.ListN.{length}
+use Rattle.std.proofs.Common.{◌≡◌, sym, ap, ◌∙◌, List, ℕ, ◌+◌, ◌≤◌, mul-le-mul_right, arith, length}
 use Rattle.octets.proofs.Lists.{length_those}
 use Rattle.index.specs.Probing.{slots_for}
 use Rattle.index.proofs.Slots.{slots_for_power}

@@ -1,9 +1,7 @@
 -- What the checks of `write_sections` and of `remap` are given: how long the sections are, that a true header lies within its section, and what the words of the
 -- table have room for.
-use Rattle.std.proofs.Common.{◌≡◌, List, ℕ, ◌*◌, ◌/◌, ◌≤◌, ◌<◌, ◌^◌, arith, length}
-use lib.ListN.{take}
-use lib.Seq.{length-take-le}
-use Rattle.octets.specs.Checked.{pass}
+use Rattle.std.proofs.Common.{◌≡◌, List, ℕ, ◌*◌, ◌/◌, ◌≤◌, ◌<◌, ◌^◌, arith, length, take, length-take-le}
+use Rattle.std.specs.Prelude.{Ok}
 use Rattle.octets.proofs.Parts.{part_cut, length_part}
 use Rattle.bundle.specs.Encoded.{encoding_is}
 use Rattle.strings.specs.Strings.{entries_of}
@@ -19,7 +17,7 @@ pub ruleset section_sizes = (part_cut, length_part, length_strings_at, sound, en
 
 -- the words of a table that its room asks for suffice, where its room is no less than there are entries
 pub stringable : (b : List ℕ) (o : StrOffsets) (table : List ℕ) (memory n : ℕ) → length b < 2 ^ 32 → Inside b o.offsets → Inside b o.strings → length table < 2 ^ 32 → o.strings.size ≤ memory
-    → length (entries_at o b) ≡ n → n ≤ length table / 7 → entries_of (encoding_is o.encoding) (bytes_at b o.offsets) ≡ pass (entries_at o b)
+    → length (entries_at o b) ≡ n → n ≤ length table / 7 → entries_of (encoding_is o.encoding) (bytes_at b o.offsets) ≡ Ok (entries_at o b)
     → Stringable b o (length (take (7 * (length table / 7)) table)) memory
 stringable b o table memory n limit offsets strings small enough count few entries =
     let long = length-take-le (7 * (length table / 7)) table (omega arith) in

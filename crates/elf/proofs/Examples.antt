@@ -1,14 +1,11 @@
 -- Small files read, as the checker computes them: what is read in both byte orders, and files for 31, 32, 33 and 18.
-use mathlib.Core.Path.{◌≡◌, refl}
-use mathlib.Core.Bool.{Bool, true, false}
-use mathlib.Core.List.{List, [], ◌∷◌, ◌++◌}
-use Prim.Native.Nat.{ℕ}
+use Rattle.std.proofs.Common.{◌≡◌, refl, Bool, true, false, List, [], ◌∷◌, ◌++◌, ℕ}
 use Rattle.numbers.specs.Names
 use Rattle.octets.specs.Checked
 use Rattle.octets.specs.Lists
 use Rattle.octets.specs.Octets
 use Rattle.octets.specs.Octets.{numbers_of, zeros}
-use Rattle.octets.specs.Checked.{Check, pass, refuse}
+use Rattle.std.specs.Prelude.{Result, Ok, Err}
 use Rattle.answers.specs.Answers
 use Rattle.answers.specs.Answers.{made, short}
 use Rattle.bundle.specs.Bundle
@@ -65,48 +62,48 @@ fronted s = s ++ behind false 5 1 1 0 20 plain
 abbrev bundle : Bool → ℕ → List ℕ
 bundle big head = numbers_of false 4 (head ∷ 0x1008_0405 ∷ 0x2080_0014 ∷ []) ++ unit big 5 ++ numbers_of false 4 (0x3000_0009 ∷ [])
 
-abbrev read : Check (List ℕ)
-read = pass (bundle false 0xF000_0000)
+abbrev read : Result (List ℕ) ℕ
+read = Ok (bundle false 0xF000_0000)
 
 abbrev Examples : Type 0
 Examples =
     -- read, in both byte orders; 18 where the output is a byte too short
     (bundle_read (flagged 1 0) ≡ read)
-    × (bundle_read (front true 2 2 1 101 64 4 2 ++ behind true 5 1 1 0 20 (header true 0 1 0 0 0 0 0)) ≡ pass (bundle true 0xF000_0001))
+    × (bundle_read (front true 2 2 1 101 64 4 2 ++ behind true 5 1 1 0 20 (header true 0 1 0 0 0 0 0)) ≡ Ok (bundle true 0xF000_0001))
     × (elf_read (flagged 1 0) 36 ≡ made (bundle false 0xF000_0000))
     × (elf_read (flagged 1 0) 35 ≡ short 36)
     -- 32: compressed; no other flag is asked about
-    × (bundle_read (flagged 1 0x800) ≡ refuse 32)
+    × (bundle_read (flagged 1 0x800) ≡ Err 32)
     × (bundle_read (flagged 1 0x400) ≡ read)
     × (bundle_read (flagged 1 0x8000_17FF) ≡ read)
     -- type 8, without bytes; other types are as good as 1
-    × (bundle_read (flagged 8 0) ≡ refuse 32)
+    × (bundle_read (flagged 8 0) ≡ Err 32)
     × (bundle_read (flagged 7 0) ≡ read)
     -- a relocation section, of type 4 or 9, whose info names it; its link is not asked about
-    × (bundle_read (with_other 4 0 1) ≡ refuse 32)
-    × (bundle_read (with_other 9 0 1) ≡ refuse 32)
+    × (bundle_read (with_other 4 0 1) ≡ Err 32)
+    × (bundle_read (with_other 9 0 1) ≡ Err 32)
     × (bundle_read (with_other 10 0 1) ≡ read)
     × (bundle_read (with_other 1 0 1) ≡ read)
     × (bundle_read (with_other 9 1 2) ≡ read)
     × (bundle_read (with_other 4 1 0) ≡ read)
     -- 33: no info, an empty one, another version
-    × (bundle_read (good_front ++ behind false 5 0 1 0 20 plain) ≡ refuse 33)
-    × (bundle_read (good_front ++ behind false 5 1 1 0 0 plain) ≡ refuse 33)
-    × (bundle_read (good_front ++ behind false 3 1 1 0 20 plain) ≡ refuse 33)
+    × (bundle_read (good_front ++ behind false 5 0 1 0 20 plain) ≡ Err 33)
+    × (bundle_read (good_front ++ behind false 5 1 1 0 0 plain) ≡ Err 33)
+    × (bundle_read (good_front ++ behind false 3 1 1 0 20 plain) ≡ Err 33)
     -- 31: 32-bit, no byte order, another type of file, another size of headers, headers that end outside, no name table
-    × (bundle_read (fronted (front false 1 1 1 101 64 4 2)) ≡ refuse 31)
-    × (bundle_read (fronted (front false 2 3 1 101 64 4 2)) ≡ refuse 31)
-    × (bundle_read (fronted (front false 2 1 2 101 64 4 2)) ≡ refuse 31)
-    × (bundle_read (fronted (front false 2 1 1 101 56 4 2)) ≡ refuse 31)
-    × (bundle_read (fronted (front false 2 1 1 102 64 4 2)) ≡ refuse 31)
-    × (bundle_read (fronted (front false 2 1 1 101 64 4 4)) ≡ refuse 31)
+    × (bundle_read (fronted (front false 1 1 1 101 64 4 2)) ≡ Err 31)
+    × (bundle_read (fronted (front false 2 3 1 101 64 4 2)) ≡ Err 31)
+    × (bundle_read (fronted (front false 2 1 2 101 64 4 2)) ≡ Err 31)
+    × (bundle_read (fronted (front false 2 1 1 101 56 4 2)) ≡ Err 31)
+    × (bundle_read (fronted (front false 2 1 1 102 64 4 2)) ≡ Err 31)
+    × (bundle_read (fronted (front false 2 1 1 101 64 4 4)) ≡ Err 31)
     -- a name that doesn't end, a wanted section that ends outside
-    × (bundle_read (good_front ++ behind false 5 1 1 0 20 (header false 17 1 0 0 0 0 0)) ≡ refuse 31)
-    × (bundle_read (good_front ++ behind false 5 1 1 0 294 plain) ≡ refuse 31)
+    × (bundle_read (good_front ++ behind false 5 1 1 0 20 (header false 17 1 0 0 0 0 0)) ≡ Err 31)
+    × (bundle_read (good_front ++ behind false 5 1 1 0 294 plain) ≡ Err 31)
     -- cut off, and nothing at all
-    × (bundle_read (zeros 64) ≡ refuse 31)
-    × (bundle_read [] ≡ refuse 31)
+    × (bundle_read (zeros 64) ≡ Err 31)
+    × (bundle_read [] ≡ Err 31)
 
 pub examples : Examples
-unfolding Names.dwo_words Names.index_words Names.name_prefix Names.name_suffix Names.dwo_name Names.index_name Names.section_names Checked.◌>>=◌ Checked.require Lists.joined Lists.those Lists.all Lists.any Lists.same Octets.part Octets.little Octets.big_from Octets.number Octets.number_at Octets.little_of Octets.big_of Octets.bytes_of Octets.numbers_of Octets.zeros Answers.answered Bundle.filled_up InitialLength.marked InitialLength.length_field InitialLength.length_stated Written.word_bytes Written.head_bytes Written.section_bytes Written.object_bytes Written.end_bytes Written.written UnitRead.length_good UnitRead.unit_size UnitRead.is_five UnitRead.address_place UnitRead.common_size UnitRead.behind_common UnitRead.identity_five UnitRead.identity_of UnitRead.unit_by UnitRead.unit_of UnitRead.not_eleven UnitRead.header_passes File.header_at File.headers_at File.unstored File.body_of File.inside File.file_of File.starts_with File.code_among File.code_of File.is_wanted File.ended File.wanted_of File.sections_inside File.elf_of Reader.compressed Reader.relocates Reader.readable Reader.first_info Reader.width_stated Reader.version_stated Reader.encoding_stated Reader.unit_stated Reader.object_word Reader.sections_read Reader.bundle_of_word Reader.bundle_from Reader.bundle_read Reader.elf_read
+unfolding Names.dwo_words Names.index_words Names.name_prefix Names.name_suffix Names.dwo_name Names.index_name Names.section_names Checked.◌>>=◌ Checked.require Lists.same Octets.part Octets.little Octets.big_from Octets.number Octets.number_at Octets.little_of Octets.big_of Octets.bytes_of Octets.numbers_of Octets.zeros Answers.answered Bundle.filled_up InitialLength.marked InitialLength.length_field InitialLength.length_stated Written.word_bytes Written.head_bytes Written.section_bytes Written.object_bytes Written.end_bytes Written.written UnitRead.length_good UnitRead.unit_size UnitRead.is_five UnitRead.address_place UnitRead.common_size UnitRead.behind_common UnitRead.identity_five UnitRead.identity_of UnitRead.unit_by UnitRead.unit_of UnitRead.not_eleven UnitRead.header_passes File.header_at File.headers_at File.unstored File.body_of File.inside File.file_of File.starts_with File.code_among File.code_of File.is_wanted File.ended File.wanted_of File.sections_inside File.elf_of Reader.compressed Reader.relocates Reader.readable Reader.first_info Reader.width_stated Reader.version_stated Reader.encoding_stated Reader.unit_stated Reader.object_word Reader.sections_read Reader.bundle_of_word Reader.bundle_from Reader.bundle_read Reader.elf_read
 examples = (refl, refl, refl, refl, refl, refl, refl, refl, refl, refl, refl, refl, refl, refl, refl, refl, refl, refl, refl, refl, refl, refl, refl, refl, refl, refl, refl, refl)

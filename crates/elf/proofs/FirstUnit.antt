@@ -1,18 +1,8 @@
 -- 33: the first info that isn't empty, and what its first unit states.
-use mathlib.Core.Path.{◌≡◌, refl, sym, ap, ◌∙◌}
-use mathlib.Core.Logic.{⊎_elim}
-use mathlib.Core.Bool.{Bool, true, false, ◌||◌}
-use mathlib.Core.List.{List, [], ◌∷◌}
-use Prim.Native.Nat.{ℕ, ◌+◌, ◌≤◌, ◌<◌}
-use native.Mathlib.Numerals.{add-one}
-use native.Mathlib.Omega.{arith}
-use lib.Dec.{eqb}
-use lib.ListN.{length, take, drop, get_or, length-take, drop_of_length-le}
-use lib.Seq.{drop-cons}
-use borrow.Author.Tests.{eq-eqb, eqb-true, ne_eqb}
+use Rattle.std.proofs.Common.{◌≡◌, refl, sym, ap, ◌∙◌, ⊎_elim, Bool, true, false, ◌||◌, List, [], ◌∷◌, ℕ, ◌+◌, ◌≤◌, ◌<◌, add-one, arith, eqb, length, take, drop, get_or, length-take, drop_of_length-le, drop-cons, eq-eqb, eqb-true, ne_eqb}
 use Rattle.octets.specs.Octets.{number_at}
 use Rattle.octets.specs.Lists.{those}
-use Rattle.octets.specs.Checked.{Check, pass, refuse, mapped}
+use Rattle.octets.specs.Checked.{mapped}
 use Rattle.octets.proofs.Checks.{known, passes, fails, or_left, or_right, or_neither}
 use Rattle.octets.proofs.Lists.{those_keeps, those_skips}
 use Rattle.octets.proofs.Refusals.{Only, only_pass, only_require, only_bind}
@@ -32,7 +22,7 @@ use Rattle.numbers.specs.Refusals.{bad_header, no_unit}
 use Rattle.elf.specs.File.{Header, body_of, no_header, code_of, is_wanted}
 use Rattle.elf.specs.Reader.{first_info, width_stated, version_stated, encoding_stated, unit_stated, object_word}
 use Rattle.elf.specs.Held.{section_of, sections_in, word_with}
-use Rattle.std.specs.Prelude.{if◌then◌else◌}
+use Rattle.std.specs.Prelude.{if◌then◌else◌, Result, Ok, Err}
 
 -- ---- a unit that doesn't end in its section
 only_unit_inside : (e : Encoding) (s : List ℕ) → Only 11 (unit_inside e s)
@@ -43,7 +33,7 @@ only_unit_inside e s =
 -- ---- the first info, by the sections of the headers
 module _ (f names : List ℕ) (hs : List Header) (i : ℕ) where
   pub info_none : length hs ≤ i → [] ≡ first_info f names (those (is_wanted names) (drop i hs))
-  unfolding first_info those
+  unfolding first_info
   info_none h = rw (drop_of_length-le hs h)
 
   module _ (l : i < length hs) where
@@ -95,7 +85,7 @@ module _ (big : Bool) (s : List ℕ) where
   abbrev versions : Bool
   versions = eqb (encoding_stated big s).version 4 || eqb (encoding_stated big s).version 5
 
-  pub bad_version : (eqb (encoding_stated big s).version 4 || eqb (encoding_stated big s).version 5) ≡ false → refuse no_unit ≡ mapped object_word (unit_stated big s)
+  pub bad_version : (eqb (encoding_stated big s).version 4 || eqb (encoding_stated big s).version 5) ≡ false → Err no_unit ≡ mapped object_word (unit_stated big s)
   unfolding unit_stated mapped
   bad_version e = sym (ap (mapped object_word) (fails _ no_unit _ e))
 
@@ -107,11 +97,11 @@ module _ (big : Bool) (s : List ℕ) where
         go : (t : Bool) → header_passes (with_address e (stated_address e s)) 1 s ≡ t → word_with e (address_of e s) ≡ mapped object_word (unit_stated big s)
         go true p =
             let q : header_passes (encoding_stated big s) info_code s ≡ true = ap (λ (x : Encoding). header_passes x 1 s) (sym own) ∙ p in
-            let left : word_with e (address_of e s) ≡ pass (object_word (with_address e (stated_address e s))) = rw (address_of, p) in
-            left ∙ ap (λ (x : Encoding). pass (object_word x)) own ∙ sym (ap (mapped object_word) (passes _ no_unit _ v ∙ passes _ no_unit _ q))
+            let left : word_with e (address_of e s) ≡ Ok (object_word (with_address e (stated_address e s))) = rw (address_of, p) in
+            left ∙ ap (λ (x : Encoding). Ok (object_word x)) own ∙ sym (ap (mapped object_word) (passes _ no_unit _ v ∙ passes _ no_unit _ q))
         go false p =
             let q : header_passes (encoding_stated big s) info_code s ≡ false = ap (λ (x : Encoding). header_passes x 1 s) (sym own) ∙ p in
-            let left : word_with e (address_of e s) ≡ refuse no_unit = rw (address_of, p) in
+            let left : word_with e (address_of e s) ≡ Err no_unit = rw (address_of, p) in
             left ∙ sym (ap (mapped object_word) (passes _ no_unit _ v ∙ fails _ no_unit _ q))
 
   own_stated : with_address (version_stated big s) (stated_address (version_stated big s) s) ≡ encoding_stated big s
@@ -119,18 +109,18 @@ module _ (big : Bool) (s : List ℕ) where
   own_stated = refl
 
   -- no version stands there
-  pub no_version : length s < length_field (version_stated big s) + 2 → refuse no_unit ≡ mapped object_word (unit_stated big s)
+  pub no_version : length s < length_field (version_stated big s) + 2 → Err no_unit ≡ mapped object_word (unit_stated big s)
   unfolding word_with
   no_version h = ⊎_elim good (bad_version) (known versions)
     where
       e : Encoding
       e = version_stated big s
 
-      unread : (c : Check ℕ) → unit_inside e s ≡ c → refuse bad_header ≡ address_of e s
-      unread (pass n) q = alone_fields e s n q (sym (fields_short e (take n s) (omega (arith, length-take n s, common_ge e))))
-      unread (refuse m) q = alone_none e s (q ∙ ap refuse ((only_unit_inside e s).is m q))
+      unread : (c : Result ℕ ℕ) → unit_inside e s ≡ c → Err bad_header ≡ address_of e s
+      unread (Ok n) q = alone_fields e s n q (sym (fields_short e (take n s) (omega (arith, length-take n s, common_ge e))))
+      unread (Err m) q = alone_none e s (q ∙ ap Err ((only_unit_inside e s).is m q))
 
-      good : versions ≡ true → refuse no_unit ≡ mapped object_word (unit_stated big s)
+      good : versions ≡ true → Err no_unit ≡ mapped object_word (unit_stated big s)
       good v = ap (word_with e) (unread (unit_inside e s) refl) ∙ good_version e own_stated v
 
 -- in the code's form
@@ -178,7 +168,7 @@ module _ (big : Bool) (s : List ℕ) (wide : Bool) (w : wide ≡ marked big s) w
         good_version big s (code_form big true wide) (own_is true (ap (number_at big 2 s) (sym d) ∙ sym e ∙ v))
         (or_right (eqb (encoding_stated big s).version 4) (eqb (encoding_stated big s).version 5) (eq-eqb (encoding_stated big s).version 5 (sym stands ∙ v)))
 
-    pub stated_neither : (n ≡ 4 → ⊥) → (n ≡ 5 → ⊥) → refuse no_unit ≡ mapped object_word (unit_stated big s)
+    pub stated_neither : (n ≡ 4 → ⊥) → (n ≡ 5 → ⊥) → Err no_unit ≡ mapped object_word (unit_stated big s)
     stated_neither v w =
         let version = (encoding_stated big s).version in
         bad_version big s (or_neither (eqb version 4) (eqb version 5) (ne_eqb version 4 (λ z. v (stands ∙ z))) (ne_eqb version 5 (λ z. w (stands ∙ z))))

@@ -1,16 +1,8 @@
 -- A bundle that was read from a file holds the wanted sections and no others, and 3 accepts it.
-use mathlib.Core.Path.{◌≡◌, refl, sym, ap, subst, ◌∙◌}
-use mathlib.Core.Logic.{◌⊎◌, inl, inr, ⊎_elim, ◌≢◌}
-use mathlib.Core.Bool.{Bool, true, false, not, ◌&&◌, ◌||◌}
-use mathlib.Core.List.{List, [], ◌∷◌, map}
-use Prim.Native.Nat.{ℕ, ◌+◌, ◌/◌, ◌≤◌, ◌<◌}
-use native.Mathlib.Omega.{arith}
-use lib.Dec.{eqb, leb}
-use lib.ListN.{length}
-use borrow.Author.Tests.{eqb-true, eqb-false, leb-true, not-true}
+use Rattle.std.proofs.Common.{◌≡◌, refl, sym, ap, subst, ◌∙◌, ◌⊎◌, inl, inr, ⊎_elim, ◌≢◌, Bool, true, false, not, ◌&&◌, ◌||◌, List, [], ◌∷◌, map, ℕ, ◌+◌, ◌/◌, ◌≤◌, ◌<◌, arith, eqb, leb, length, eqb-true, leb-true}
+use borrow.Author.Tests.{eqb-false, not-true}
 use Rattle.octets.specs.Octets.{part}
 use Rattle.octets.specs.Lists.{all, those}
-use Rattle.octets.specs.Checked.{Check, pass}
 use Rattle.octets.proofs.Checks.{bind_pass, require_pass, pass_inj, or_cases}
 use Rattle.octets.proofs.Lists.{all_head, all_tail, those_keeps, those_skips}
 use Rattle.octets.proofs.Numbers.{Bytes, bytes_part, bytes_none}
@@ -28,7 +20,7 @@ use Rattle.elf.specs.Reader.{readable, first_info, width_stated, version_stated,
 use Rattle.elf.specs.Elf32.{elf32_of, bundle32_read}
 use Rattle.elf.specs.Holds.{sections_of, HoldsFile, Holds, Holds32}
 use Rattle.elf.proofs.Names.{code_most}
-use Rattle.std.specs.Prelude.{if◌then◌else◌}
+use Rattle.std.specs.Prelude.{if◌then◌else◌, Result, Ok}
 
 -- ---- what is stored can be written
 abbrev short : Section → Bool
@@ -45,7 +37,6 @@ module _ (f names : List ℕ) where
       record { least = omega arith; most = code_most names h; short = omega (arith, leb-true (length (body_of f h)) section_limit s) }
 
   storable : (hs : List Header) → all short (map one (those (is_wanted names) hs)) ≡ true → Every Storable (map one (those (is_wanted names) hs))
-  unfolding those
   storable [] a = nothing
   storable (h ∷ hs) a = go (is_wanted names h) refl (storable hs) a
     where
@@ -54,7 +45,7 @@ module _ (f names : List ℕ) where
       go true e more q =
           let k = ap (map one) (those_keeps (is_wanted names) h hs e) in
           let r : all short (one h ∷ map one (those (is_wanted names) hs)) ≡ true = ap (all short) (sym k) ∙ q in
-          subst (Every Storable) (sym k) (also (storable_one h e (all_head short _ _ r)) (more (all_tail short _ _ r)))
+          subst (Every Storable) (sym k) (also (storable_one h e (all_head short (one h) (map one (those (is_wanted names) hs)) r)) (more (all_tail short (one h) (map one (those (is_wanted names) hs)) r)))
       go false e more q =
           let k = ap (map one) (those_skips (is_wanted names) h hs e) in
           subst (Every Storable) (sym k) (more (ap (all short) (sym k) ∙ q))
@@ -90,7 +81,7 @@ unfolding object_word
 word_small e (inl v) w a = omega arith
 word_small e (inr v) w a = omega arith
 
-word_kind : (big : Bool) (s : List ℕ) (e : Encoding) → Bytes s → unit_stated big s ≡ pass e → object_word e / 0x100_0000 ≡ 16
+word_kind : (big : Bool) (s : List ℕ) (e : Encoding) → Bytes s → unit_stated big s ≡ Ok e → object_word e / 0x100_0000 ≡ 16
 unfolding unit_stated encoding_stated version_stated
 word_kind big s e b h =
     let x = encoding_stated big s in
@@ -105,7 +96,7 @@ abbrev first_sections : List Sections → List Section
 first_sections [] = []
 first_sections (o ∷ os) = o.sections
 
-module _ (f : List ℕ) (opened : Check File) (e : File) (o : opened ≡ pass e) where
+module _ (f : List ℕ) (opened : Result File ℕ) (e : File) (o : opened ≡ Ok e) where
   written_holds : (word : ℕ) → Storables (record { word = word; sections = sections_read f e }) → length (written e.big (record { word = word; sections = sections_read f e } ∷ [])) ≤ package_limit
       → HoldsFile opened f (written e.big (record { word = word; sections = sections_read f e } ∷ []))
   unfolding sections_of section_in object_in objects_from
@@ -122,7 +113,7 @@ module _ (f : List ℕ) (opened : Check File) (e : File) (o : opened ≡ pass e)
         sections = ap first_sections (written_back e.big os);
       }
 
-  from_holds : (b : List ℕ) → Bytes f → bundle_from f e ≡ pass b → HoldsFile opened f b
+  from_holds : (b : List ℕ) → Bytes f → bundle_from f e ≡ Ok b → HoldsFile opened f b
   unfolding bundle_from bundle_of_word sections_read wanted_of
   from_holds b g h =
       let r = require_pass (all (readable e.headers) (wanted_of e)) 32 _ b h in
@@ -134,10 +125,10 @@ module _ (f : List ℕ) (opened : Check File) (e : File) (o : opened ≡ pass e)
       let good : Storables (record { word = object_word u.0; sections = sections_read f e }) = record { kind = k; sections = storable f e.names e.headers l.0 } in
       subst (HoldsFile opened f) (pass_inj m.1) (written_holds (object_word u.0) good (leb-true (length w) package_limit m.0))
 
-pub holds : (f b : List ℕ) → Bytes f → bundle_read f ≡ pass b → Holds f b
+pub holds : (f b : List ℕ) → Bytes f → bundle_read f ≡ Ok b → Holds f b
 unfolding bundle_read
 holds f b g h = let e = bind_pass (elf_of f) _ b h in from_holds f (elf_of f) e.0 e.1 b g e.2
 
-pub holds32 : (f b : List ℕ) → Bytes f → bundle32_read f ≡ pass b → Holds32 f b
+pub holds32 : (f b : List ℕ) → Bytes f → bundle32_read f ≡ Ok b → Holds32 f b
 unfolding bundle32_read
 holds32 f b g h = let e = bind_pass (elf32_of f) _ b h in from_holds f (elf32_of f) e.0 e.1 b g e.2

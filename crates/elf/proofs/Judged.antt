@@ -1,13 +1,5 @@
 -- The headers judged one by one: 31 of names and places.
-use mathlib.Core.Path.{◌≡◌, refl, sym, ap, ◌∙◌}
-use mathlib.Core.Bool.{Bool, true, false, not, ◌&&◌, ◌||◌}
-use mathlib.Core.List.{List, [], ◌∷◌}
-use Prim.Native.Nat.{ℕ, suc, ◌+◌, ◌≤◌, ◌<◌}
 use Rattle.std.specs.List.{list_all, range_with_len}
-use native.Mathlib.Omega.{arith}
-use lib.Dec.{eqb, ltb}
-use lib.ListN.{length, drop, get_or}
-use borrow.Author.Tests.{eq-eqb, ne_eqb, lt-ltb, le-ltb}
 use Rattle.octets.specs.Lists.{all, any, those}
 use Rattle.octets.proofs.Checks.{true_false}
 use Rattle.octets.proofs.Lists.{all_cons, all_stops, those_keeps, those_skips}
@@ -16,7 +8,7 @@ use Rattle.elf.specs.File.{Header, body_of, inside, no_header, code_of, is_wante
 use Rattle.elf.specs.Held.{file_is, header_good, code_found}
 use Rattle.elf.specs.declared.file.ElfFile.{ElfFile}
 use Rattle.elf.proofs.Headers.{length_all}
-use Rattle.std.proofs.Common.{Option, Some, None}
+use Rattle.std.proofs.Common.{Option, Some, None, ◌≡◌, refl, sym, ap, ◌∙◌, Bool, true, false, not, ◌&&◌, ◌||◌, List, [], ◌∷◌, ℕ, suc, ◌+◌, ◌≤◌, ◌<◌, arith, eqb, ltb, length, drop, get_or, eq-eqb, ne_eqb, lt-ltb, le-ltb}
 use Rattle.std.specs.Option.{is_some, MatchOption}
 use denote.Bor.{Bor}
 
@@ -41,7 +33,6 @@ module _ (names : List ℕ) (h : Header) where
 
 -- a test of those that pass another
 pub all_of_those : {A : Type 0} (w p : A → Bool) (xs : List A) → all p (those w xs) ≡ all (λ x. not (w x) || p x) xs
-unfolding all those
 all_of_those w p [] = refl
 all_of_those w p (x ∷ xs) = go (w x) (p x) refl refl (all_of_those w p xs)
   where
@@ -52,7 +43,6 @@ all_of_those w p (x ∷ xs) = go (w x) (p x) refl refl (all_of_those w p xs)
 
 -- two tests of all
 pub all_both : {A : Type 0} (p q : A → Bool) (xs : List A) → all (λ x. p x && q x) xs ≡ (all p xs && all q xs)
-unfolding all
 all_both p q [] = refl
 all_both p q (x ∷ xs) = go (p x) (q x) refl refl (all_both p q xs)
   where
@@ -98,7 +88,6 @@ wanted_inside f names hs i a h w =
 -- ---- a test of each header by its number
 all_range : {A : Type 0} (p : A → Bool) (d : A) (t : ℕ → Bool) (k : ℕ) (xs : List A) → ((i : ℕ) → i < length xs → t (k + i) ≡ p (get_or xs i d))
     → list_all t (range_with_len k (length xs)) ≡ all p xs
-unfolding all
 all_range p d t k [] h = refl
 all_range p d t k (x ∷ xs) h = go (p x) refl (ap t (omega arith) ∙ h 0 (omega arith)) (all_range p d t (k + 1) xs (λ i l. ap t (omega arith) ∙ h (suc i) (omega arith)))
   where

@@ -1,19 +1,9 @@
 -- Names in the name table: which one stands there, and where the last one ends.
-use mathlib.Core.Path.{◌≡◌, refl, sym, ap, ◌∙◌}
-use mathlib.Core.Logic.{⊎_elim}
-use mathlib.Core.Bool.{Bool, true, false}
-use mathlib.Core.List.{List, [], ◌∷◌, ◌++◌}
-use Prim.Native.Nat.{ℕ, suc, ◌+◌, ◌-◌, ◌≤◌, ◌<◌}
+use Rattle.std.proofs.Common.{◌≡◌, refl, sym, ap, ◌∙◌, ⊎_elim, Bool, true, false, List, [], ◌∷◌, ◌++◌, ℕ, suc, ◌+◌, ◌-◌, ◌≤◌, ◌<◌, add-one, arith, eqb, ltb, length, take, drop, get_or, length-append, length-take, length-drop, drop_of_length-le, take_all, take-suc, take_at, length-take-le, get_or-take, get_or-drop, get_or-append-add, eq-eqb, ne_eqb, eqb-true, lt-ltb, le-ltb}
 use native.Mathlib.Decide.{dec_le}
-use native.Mathlib.Numerals.{add-one}
-use native.Mathlib.Omega.{arith}
-use lib.Dec.{eqb, ltb}
-use lib.ListN.{length, take, drop, get_or, length-append, length-take, length-drop, drop_of_length-le}
 use Rattle.std.specs.List.{slice_range, find, range_with_len}
 use Rattle.std.specs.Prelude.{Some}
 use Rattle.elf.specs.Held.{code_found}
-use lib.Seq.{take_all, take-suc, take_at, length-take-le, get_or-take, get_or-drop, get_or-append-add}
-use borrow.Author.Tests.{eq-eqb, ne_eqb, eqb-true, lt-ltb, le-ltb}
 use Rattle.octets.specs.Lists.{any, same}
 use Rattle.octets.proofs.Checks.{known}
 use Rattle.octets.proofs.Lists.{same_both, eq_same, same_eq, ne_same}

@@ -1,17 +1,8 @@
 -- A file that was opened, header by header, in the code's terms.
-use mathlib.Core.Path.{◌≡◌, sym, ap, subst, ◌∙◌}
-use mathlib.Core.Bool.{Bool, true, false}
-use mathlib.Core.List.{List, [], ◌∷◌}
-use Prim.Native.Nat.{ℕ, ◌+◌, ◌≤◌, ◌<◌}
-use native.Mathlib.Omega.{arith}
-use lib.Dec.{eqb, leb}
-use lib.ListN.{length, take, get_or}
-use mathlib.Core.Logic.{⊎_elim}
-use borrow.Author.Tests.{eqb-false, not-true, leb-true, le-leb, lt-leb}
+use borrow.Author.Tests.{eqb-false, not-true, lt-leb}
 use Rattle.elf.proofs.Names.{code_most}
-use Rattle.std.proofs.Common.{Some, None}
+use Rattle.std.proofs.Common.{Some, None, ◌≡◌, sym, ap, subst, ◌∙◌, Bool, true, false, List, [], ◌∷◌, ℕ, ◌+◌, ◌≤◌, ◌<◌, arith, eqb, leb, length, take, get_or, ⊎_elim, leb-true, le-leb}
 use Rattle.octets.specs.Lists.{all}
-use Rattle.octets.specs.Checked.{pass, refuse}
 use Rattle.octets.proofs.Checks.{known}
 use Rattle.numbers.specs.Refusals.{section_too_long}
 use Rattle.bundle.specs.Bundle.{filled_up}
@@ -23,7 +14,7 @@ use Rattle.elf.proofs.Headers.{in_headers, past_headers}
 use Rattle.elf.proofs.Judged.{told_wanted, wanted_inside}
 use Rattle.elf.proofs.Rooms.{one_unwanted, one_wanted, room_one, room_none, short_one, room_good, room_bad, room_is, room_most, sections_more, room_more, room_within, short_at, sections_all}
 use Rattle.elf.proofs.Putting.{appended_more}
-use Rattle.std.specs.Prelude.{if◌then◌else◌}
+use Rattle.std.specs.Prelude.{if◌then◌else◌, Ok, Err}
 
 -- a code that was found is the code
 found_code : (n code : ℕ) → Some code ≡ code_found n → code ≡ n
@@ -77,9 +68,8 @@ module _ (e : ElfFile) (i : ℕ) where
 
 -- ---- one header's room
 module _ (ss : List Section) where
-  pub room_skip : [] ≡ ss → pass 0 ≡ room_of ss
-  unfolding all
-  room_skip q = ap pass (sym (ap room_sum (sym q) ∙ room_none)) ∙ room_good ss (ap (all short_enough) (sym q))
+  pub room_skip : [] ≡ ss → Ok 0 ≡ room_of ss
+  room_skip q = ap Ok (sym (ap room_sum (sym q) ∙ room_none)) ∙ room_good ss (ap (all short_enough) (sym q))
 
   module _ (s : Section) (q : s ∷ [] ≡ ss) where
     pub room_section : room_sum ss ≡ 4 + filled_up (length s.bytes)
@@ -89,11 +79,11 @@ module _ (ss : List Section) where
     unfolding short_enough
     short_section = ap (all short_enough) (sym q) ∙ short_one s
 
-    pub room_long : 8_388_607 < length s.bytes → refuse section_too_long ≡ room_of ss
+    pub room_long : 8_388_607 < length s.bytes → Err section_too_long ≡ room_of ss
     room_long g = room_bad ss (short_section ∙ lt-leb (length s.bytes) 8_388_607 g)
 
-    pub room_fits : length s.bytes ≤ 8_388_607 → (n : ℕ) → n ≡ filled_up (length s.bytes) → pass (4 + n) ≡ room_of ss
-    room_fits g n e = ap pass (ap (λ (k : ℕ). 4 + k) e ∙ sym room_section) ∙ room_good ss (short_section ∙ le-leb (length s.bytes) 8_388_607 g)
+    pub room_fits : length s.bytes ≤ 8_388_607 → (n : ℕ) → n ≡ filled_up (length s.bytes) → Ok (4 + n) ≡ room_of ss
+    room_fits g n e = ap Ok (ap (λ (k : ℕ). 4 + k) e ∙ sym room_section) ∙ room_good ss (short_section ∙ le-leb (length s.bytes) 8_388_607 g)
 
     -- it fits, where its room does
     pub section_short : (at : ℕ) (out : List ℕ) → Fits ss at out → length s.bytes ≤ 8_388_607
@@ -112,7 +102,7 @@ module _ (e : ElfFile) where
   abbrev table : List ℕ
   table = e.names.now
 
-  pub room_bound : (i n : ℕ) → pass n ≡ room_of (header_sections e i) → n ≤ 8_388_615
+  pub room_bound : (i n : ℕ) → Ok n ≡ room_of (header_sections e i) → n ≤ 8_388_615
   unfolding header_sections
   room_bound i n q =
       let r = room_is (header_sections e i) n q in

@@ -1,15 +1,9 @@
 -- The same of an ELF32 file.
-use mathlib.Core.Path.{◌≡◌, sym, ◌∙◌}
-use mathlib.Core.Logic.{◌⊎◌, inl, inr, ⊎_elim}
-use mathlib.Core.Bool.{Bool, true, false, ◌&&◌, ◌||◌}
-use mathlib.Core.List.{List, [], ◌∷◌}
-use Prim.Native.Nat.{ℕ, ◌+◌, ◌*◌, ◌≤◌, ◌<◌}
-use lib.Dec.{eqb, leb}
-use lib.ListN.{length, take, get_or}
-use borrow.Author.Tests.{eq-eqb, ne_eqb, le-leb, lt-leb, lt-ltb, le-ltb}
+use Rattle.std.proofs.Common.{◌≡◌, sym, ◌∙◌, ◌⊎◌, inl, inr, ⊎_elim, Bool, true, false, ◌&&◌, ◌||◌, List, [], ◌∷◌, ℕ, ◌+◌, ◌*◌, ◌≤◌, ◌<◌, eqb, leb, length, take, get_or, eq-eqb, ne_eqb, le-leb, lt-ltb, le-ltb}
+use borrow.Author.Tests.{lt-leb}
 use Rattle.octets.specs.Octets.{number_at}
 use Rattle.octets.specs.Lists.{same}
-use Rattle.octets.specs.Checked.{pass, refuse}
+use Rattle.std.specs.Prelude.{Ok, Err}
 use Rattle.octets.proofs.Checks.{passes, fails, and_left, and_right, and_fails, known}
 use Rattle.numbers.specs.Refusals.{not_elf}
 use Rattle.elf.specs.File.{Header, body_of, inside}
@@ -21,12 +15,12 @@ module _ (f : List ℕ) where
   abbrev ident : Bool
   ident = same (take 5 f) (0x7F ∷ 0x45 ∷ 0x4C ∷ 0x46 ∷ 1 ∷ []) && (eqb (get_or f 5 0) 1 || eqb (get_or f 5 0) 2)
 
-  pub open_short : length f < 52 → refuse not_elf ≡ file32_of f
+  pub open_short : length f < 52 → Err not_elf ≡ file32_of f
   unfolding file32_of
   open_short h = sym (fails _ _ _ (lt-leb 52 (length f) h))
 
   module _ (h : 52 ≤ length f) where
-    pub open_other : ident ≡ false → refuse not_elf ≡ file32_of f
+    pub open_other : ident ≡ false → Err not_elf ≡ file32_of f
     unfolding file32_of
     open_other e = ⊎_elim
         (λ (m : same (take 5 f) (0x7F ∷ 0x45 ∷ 0x4C ∷ 0x46 ∷ 1 ∷ []) ≡ false). sym (passes _ _ _ (le-leb 52 (length f) h) ∙ fails _ _ _ m))
@@ -34,7 +28,7 @@ module _ (f : List ℕ) where
         (and_fails _ _ e)
       where
         ordered : (same (take 5 f) (0x7F ∷ 0x45 ∷ 0x4C ∷ 0x46 ∷ 1 ∷ []) ≡ true) ⊎ (same (take 5 f) (0x7F ∷ 0x45 ∷ 0x4C ∷ 0x46 ∷ 1 ∷ []) ≡ false)
-            → (eqb (get_or f 5 0) 1 || eqb (get_or f 5 0) 2) ≡ false → refuse not_elf ≡ file32_of f
+            → (eqb (get_or f 5 0) 1 || eqb (get_or f 5 0) 2) ≡ false → Err not_elf ≡ file32_of f
         ordered (inl k) m = sym (passes _ _ _ (le-leb 52 (length f) h) ∙ passes _ _ _ k ∙ fails _ _ _ m)
         ordered (inr k) m = sym (passes _ _ _ (le-leb 52 (length f) h) ∙ fails _ _ _ k)
 
@@ -44,17 +38,17 @@ module _ (f : List ℕ) where
         sym (passes _ _ _ (le-leb 52 (length f) h) ∙ passes _ _ _ (and_left _ _ e) ∙ passes _ _ _ (and_right (same (take 5 f) (0x7F ∷ 0x45 ∷ 0x4C ∷ 0x46 ∷ 1 ∷ [])) _ e))
 
 module _ (f : List ℕ) (big : Bool) where
-  pub type_other : (number_at big 2 f 16 ≡ 1 → ⊥) → refuse not_elf ≡ from_type32 f big
+  pub type_other : (number_at big 2 f 16 ≡ 1 → ⊥) → Err not_elf ≡ from_type32 f big
   unfolding from_type32
   type_other h = sym (fails _ _ _ (ne_eqb (number_at big 2 f 16) 1 h))
 
   module _ (a : number_at big 2 f 16 ≡ 1) where
-    pub size_other : (number_at big 2 f 46 ≡ 40 → ⊥) → refuse not_elf ≡ from_type32 f big
+    pub size_other : (number_at big 2 f 46 ≡ 40 → ⊥) → Err not_elf ≡ from_type32 f big
     unfolding from_type32
     size_other h = sym (passes _ _ _ (eq-eqb (number_at big 2 f 16) 1 a) ∙ fails _ _ _ (ne_eqb (number_at big 2 f 46) 40 h))
 
     module _ (b : number_at big 2 f 46 ≡ 40) (at n table : ℕ) (p : at ≡ number_at big 4 f 32) (q : n ≡ number_at big 2 f 48) where
-      pub headers_outside : length f < at + 40 * n → refuse not_elf ≡ from_type32 f big
+      pub headers_outside : length f < at + 40 * n → Err not_elf ≡ from_type32 f big
       unfolding from_type32
       headers_outside h =
           sym (passes _ _ _ (eq-eqb (number_at big 2 f 16) 1 a) ∙ passes _ _ _ (eq-eqb (number_at big 2 f 46) 40 b) ∙ fails _ _ _ (lt-leb (number_at big 4 f 32 + 40 * number_at big 2 f 48) (length f) (rw (← p, ← q) h)))
@@ -63,7 +57,7 @@ module _ (f : List ℕ) (big : Bool) where
         within : leb (number_at big 4 f 32 + 40 * number_at big 2 f 48) (length f) ≡ true
         within = le-leb (number_at big 4 f 32 + 40 * number_at big 2 f 48) (length f) (rw (← p, ← q) c)
 
-        pub table_outside : n ≤ table → refuse not_elf ≡ from_type32 f big
+        pub table_outside : n ≤ table → Err not_elf ≡ from_type32 f big
         unfolding from_type32
         table_outside h =
             sym (passes _ _ _ (eq-eqb (number_at big 2 f 16) 1 a) ∙ passes _ _ _ (eq-eqb (number_at big 2 f 46) 40 b) ∙ passes _ _ _ within ∙ fails _ _ _ (le-ltb (number_at big 2 f 50) (number_at big 2 f 48) (rw (← q, ← r) h)))
@@ -76,10 +70,10 @@ module _ (f : List ℕ) (big : Bool) where
 
 -- ---- the name table
 module _ (f : List ℕ) (big : Bool) (at n : ℕ) (t : Header) where
-  pub names_outside : inside f t ≡ false → refuse not_elf ≡ with_names32 f big at n t
+  pub names_outside : inside f t ≡ false → Err not_elf ≡ with_names32 f big at n t
   unfolding with_names32
   names_outside e = sym (fails _ _ _ e)
 
-  pub names_there : inside f t ≡ true → pass (record { big = big; headers = headers32_at big f 0 at n; names = body_of f t }) ≡ with_names32 f big at n t
+  pub names_there : inside f t ≡ true → Ok (record { big = big; headers = headers32_at big f 0 at n; names = body_of f t }) ≡ with_names32 f big at n t
   unfolding with_names32
   names_there e = sym (passes _ _ _ e)

@@ -1,10 +1,5 @@
 -- Sections written one following the other, and the whole bundle.
-use mathlib.Core.Path.{◌≡◌, refl, sym, ap, ap₂, ◌∙◌}
-use mathlib.Core.Bool.{Bool}
-use mathlib.Core.List.{List, [], ◌∷◌, ◌++◌, map, append-nil, append_assoc}
-use Prim.Native.Nat.{ℕ, ◌+◌, ◌*◌, ◌-◌, ◌≤◌}
-use native.Mathlib.Omega.{arith}
-use lib.ListN.{length, length-append}
+use Rattle.std.proofs.Common.{◌≡◌, refl, sym, ap, ap₂, ◌∙◌, Bool, List, [], ◌∷◌, ◌++◌, map, append-nil, append_assoc, ℕ, ◌+◌, ◌*◌, ◌-◌, ◌≤◌, arith, length, length-append}
 use Rattle.octets.specs.Octets.{placed, padded}
 use Rattle.octets.specs.Lists.{joined, sum}
 use Rattle.octets.proofs.Joined.{map-append, joined_append, joined_one}
@@ -18,7 +13,6 @@ use Rattle.elf.specs.Held.{room_sum, Appended, Writable, one_object}
 use Rattle.elf.proofs.Rooms.{room_one, room_none, room_append, room_bytes}
 
 pub appended_none : (ss : List Section) (at : ℕ) (out : List ℕ) → ss ≡ [] → Appended ss at out out
-unfolding joined
 appended_none ss at out e =
     record {
       same = refl;

@@ -1,16 +1,7 @@
 -- The wanted sections of some headers: what they take, header by header.
-use mathlib.Core.Path.{◌≡◌, refl, sym, ap, ◌∙◌}
-use mathlib.Core.Logic.{⊎_elim}
-use mathlib.Core.Bool.{Bool, true, false, ◌&&◌}
-use mathlib.Core.List.{List, [], ◌∷◌, ◌++◌, map}
-use Prim.Native.Nat.{ℕ, ◌+◌, ◌≤◌, ◌<◌}
-use native.Mathlib.Numerals.{add-one}
-use native.Mathlib.Omega.{arith}
-use lib.ListN.{length, take, drop, get_or, take-append-drop}
-use lib.Seq.{take-suc, take_all}
-use borrow.Author.Tests.{leb-true}
+use Rattle.std.proofs.Common.{◌≡◌, refl, sym, ap, ◌∙◌, ⊎_elim, Bool, true, false, ◌&&◌, List, [], ◌∷◌, ◌++◌, map, ℕ, ◌+◌, ◌≤◌, ◌<◌, add-one, arith, length, take, drop, get_or, take-append-drop, take-suc, take_all, leb-true}
 use Rattle.octets.specs.Lists.{all, joined, sum, those}
-use Rattle.octets.specs.Checked.{Check, pass, refuse}
+use Rattle.std.specs.Prelude.{Result, Ok, Err}
 use Rattle.numbers.specs.Refusals.{section_too_long}
 use Rattle.octets.proofs.Checks.{known, pass_refuse, and_both, and_left, and_right, not_left, not_right}
 use Rattle.octets.proofs.Lists.{all_append, those_append, those_keeps, those_skips}
@@ -25,11 +16,11 @@ use Rattle.elf.specs.Held.{section_of, sections_in, short_enough, room_sum, room
 -- ---- of one header
 module _ (f names : List ℕ) (h : Header) where
   pub one_wanted : is_wanted names h ≡ true → sections_in f names (h ∷ []) ≡ section_of f names h ∷ []
-  unfolding sections_in those
+  unfolding sections_in
   one_wanted e = ap (map (section_of f names)) (those_keeps (is_wanted names) h [] e)
 
   pub one_unwanted : is_wanted names h ≡ false → sections_in f names (h ∷ []) ≡ []
-  unfolding sections_in those
+  unfolding sections_in
   one_unwanted e = ap (map (section_of f names)) (those_skips (is_wanted names) h [] e)
 
 -- ---- room
@@ -51,31 +42,30 @@ unfolding room_sum section_size
 room_bytes ss = sections_size ss
 
 pub short_one : (s : Section) → all short_enough (s ∷ []) ≡ short_enough s
-unfolding all
 short_one s = go (short_enough s) refl
   where
     go : (t : Bool) → short_enough s ≡ t → all short_enough (s ∷ []) ≡ short_enough s
-    go true e = rw (all, e)
-    go false e = rw (all, e)
+    go true e = rw e
+    go false e = rw e
 
-pub room_good : (ss : List Section) → all short_enough ss ≡ true → pass (room_sum ss) ≡ room_of ss
+pub room_good : (ss : List Section) → all short_enough ss ≡ true → Ok (room_sum ss) ≡ room_of ss
 unfolding room_of
 room_good ss e = rw (room_of, e)
 
-pub room_bad : (ss : List Section) → all short_enough ss ≡ false → refuse section_too_long ≡ room_of ss
+pub room_bad : (ss : List Section) → all short_enough ss ≡ false → Err section_too_long ≡ room_of ss
 unfolding room_of
 room_bad ss e = rw (room_of, e)
 
-pub room_is : (ss : List Section) (n : ℕ) → pass n ≡ room_of ss → (all short_enough ss ≡ true) × (n ≡ room_sum ss)
+pub room_is : (ss : List Section) (n : ℕ) → Ok n ≡ room_of ss → (all short_enough ss ≡ true) × (n ≡ room_sum ss)
 room_is ss n e = ⊎_elim
-    (λ (t : all short_enough ss ≡ true). let q : pass n ≡ pass (room_sum ss) = e ∙ sym (room_good ss t) in (t, cc))
+    (λ (t : all short_enough ss ≡ true). let q : Ok n ≡ Ok (room_sum ss) = e ∙ sym (room_good ss t) in (t, cc))
     (λ (t : all short_enough ss ≡ false). absurd (pass_refuse n section_too_long (e ∙ sym (room_bad ss t))))
     (known (all short_enough ss))
 
-pub room_not : (ss : List Section) (k : ℕ) → refuse k ≡ room_of ss → (all short_enough ss ≡ false) × (k ≡ section_too_long)
+pub room_not : (ss : List Section) (k : ℕ) → Err k ≡ room_of ss → (all short_enough ss ≡ false) × (k ≡ section_too_long)
 room_not ss k e = ⊎_elim
     (λ (t : all short_enough ss ≡ true). absurd (pass_refuse (room_sum ss) k (room_good ss t ∙ sym e)))
-    (λ (t : all short_enough ss ≡ false). let q : ◌≡◌ {A = Check ℕ} (refuse k) (refuse section_too_long) = e ∙ sym (room_bad ss t) in (t, cc))
+    (λ (t : all short_enough ss ≡ false). let q : ◌≡◌ {A = Result ℕ ℕ} (Err k) (Err section_too_long) = e ∙ sym (room_bad ss t) in (t, cc))
     (known (all short_enough ss))
 
 -- ---- headers in a row
@@ -85,7 +75,7 @@ module _ (f names : List ℕ) where
   sections_append hs is = ap (map (section_of f names)) (those_append (is_wanted names) hs is) ∙ map-append (section_of f names) (those (is_wanted names) hs) (those (is_wanted names) is)
 
   pub sections_none : sections_in f names [] ≡ []
-  unfolding sections_in those
+  unfolding sections_in
   sections_none = refl
 
   -- what one header takes is bounded

@@ -1,12 +1,6 @@
 -- 32: no relocation section has a wanted target, asked of the relocation sections.
-use mathlib.Core.Path.{◌≡◌, refl, sym, ap, ◌∙◌}
-use mathlib.Core.Logic.{⊎_elim}
-use mathlib.Core.Bool.{Bool, true, false, not, ◌&&◌, ◌||◌}
-use mathlib.Core.List.{List}
-use Prim.Native.Nat.{ℕ, ◌<◌}
-use lib.Dec.{eqb, ltb}
-use lib.ListN.{length, get_or}
-use borrow.Author.Tests.{eq-eqb, eqb-true, lt-ltb, ltb-true, not-true}
+use Rattle.std.proofs.Common.{◌≡◌, refl, sym, ap, ◌∙◌, ⊎_elim, Bool, true, false, not, ◌&&◌, ◌||◌, List, ℕ, ◌<◌, eqb, ltb, length, get_or, eq-eqb, eqb-true, lt-ltb, ltb-true}
+use borrow.Author.Tests.{not-true}
 use Rattle.octets.specs.Lists.{all, any}
 use Rattle.octets.proofs.Checks.{known, true_false, and_both, and_left, and_right, both_ways}
 use Rattle.octets.proofs.Elements.{all_at, at_all, at_any, none_at}

@@ -1,8 +1,8 @@
 -- An ELF32 file read into a bundle of one object: what an ELF64 file states, in narrower fields. From the section headers on both are read by one definition.
-use Rattle.std.specs.Prelude.{Bool, ◌||◌, List, [], ◌∷◌, ℕ, zero, suc, ◌+◌, ◌*◌, ◌==◌, nat_le, nat_lt, length, take, slice_index}
+use Rattle.std.specs.Prelude.{Bool, ◌||◌, List, [], ◌∷◌, ℕ, zero, suc, ◌+◌, ◌*◌, ◌==◌, nat_le, nat_lt, length, take, slice_index, Result, Ok}
 use Rattle.octets.specs.Octets.{number_at}
 use Rattle.octets.specs.Lists.{same}
-use Rattle.octets.specs.Checked.{Check, pass, ◌>>=◌, require}
+use Rattle.octets.specs.Checked.{◌>>=◌, require}
 use Rattle.answers.specs.Answers.{Answer, answered}
 use Rattle.numbers.specs.Refusals.{not_elf}
 use Rattle.elf.specs.File.{Header, File, body_of, inside, sections_inside}
@@ -27,7 +27,7 @@ headers32_at big f i at zero = []
 headers32_at big f i at (suc n) = header32_at big f i at ∷ headers32_at big f (i + 1) (at + 40) n
 
 -- an ELF32 file of type 1, with its headers and its name table inside; its own header has 52 bytes
-unfoldable pub file32_of : List ℕ → Check File
+unfoldable pub file32_of : List ℕ → Result File ℕ
 file32_of f = do
   _ ← require (nat_le 52 (length f)) not_elf
   _ ← require (same (take 5 f) (0x7F ∷ 0x45 ∷ 0x4C ∷ 0x46 ∷ 1 ∷ [])) not_elf
@@ -42,14 +42,14 @@ file32_of f = do
   _ ← require (nat_lt table n) not_elf
   let t = header32_at big f table (at + 40 * table)
   _ ← require (inside f t) not_elf
-  pass (record { big = big; headers = headers32_at big f 0 at n; names = body_of f t })
+  Ok (record { big = big; headers = headers32_at big f 0 at n; names = body_of f t })
 
 -- 31: all of it
-unfoldable pub elf32_of : List ℕ → Check File
+unfoldable pub elf32_of : List ℕ → Result File ℕ
 elf32_of f = file32_of f >>= sections_inside f
 
 -- of one object
-unfoldable pub bundle32_read : List ℕ → Check (List ℕ)
+unfoldable pub bundle32_read : List ℕ → Result (List ℕ) ℕ
 bundle32_read f = elf32_of f >>= bundle_from f
 
 -- for an output of o bytes

@@ -1,8 +1,8 @@
 -- An ELF64 file, as it is read (FORMAT 8.1 and 8.2): its section headers, their names, and the sections that are wanted (31).
-use Rattle.std.specs.Prelude.{Bool, true, false, not, ◌||◌, List, [], ◌∷◌, ◌++◌, ℕ, zero, suc, ◌+◌, ◌*◌, length, take, drop, ◌==◌, nat_eq, nat_le, nat_lt, slice_index, if◌then◌else◌}
+use Rattle.std.specs.Prelude.{Bool, true, false, not, ◌||◌, List, [], ◌∷◌, ◌++◌, ℕ, zero, suc, ◌+◌, ◌*◌, length, take, drop, ◌==◌, nat_eq, nat_le, nat_lt, slice_index, if◌then◌else◌, Result, Ok}
 use Rattle.octets.specs.Octets.{part, number_at}
 use Rattle.octets.specs.Lists.{all, any, those, same}
-use Rattle.octets.specs.Checked.{Check, pass, ◌>>=◌, require}
+use Rattle.octets.specs.Checked.{◌>>=◌, require}
 use Rattle.numbers.specs.Names.{section_names}
 use Rattle.numbers.specs.Refusals.{not_elf}
 
@@ -57,7 +57,7 @@ no_header = record { number = 0; name = 0; type = 0; flags = 0; offset = 0; size
 
 -- an ELF64 file of type 1, with its headers and its name table inside. The name table's number is below the count of headers, so neither is in
 -- extended numbering: there the count is 0, or the number FFFF hexadecimal
-unfoldable pub file_of : List ℕ → Check File
+unfoldable pub file_of : List ℕ → Result File ℕ
 file_of f = do
   _ ← require (nat_le 64 (length f)) not_elf
   _ ← require (same (take 5 f) (0x7F ∷ 0x45 ∷ 0x4C ∷ 0x46 ∷ 2 ∷ [])) not_elf
@@ -72,7 +72,7 @@ file_of f = do
   _ ← require (nat_lt table n) not_elf
   let t = header_at big f table (at + 64 * table)
   _ ← require (inside f t) not_elf
-  pass (record { big = big; headers = headers_at big f 0 at n; names = body_of f t })
+  Ok (record { big = big; headers = headers_at big f 0 at n; names = body_of f t })
 
 -- ---- names
 -- s starts with this name and the zero that ends it
@@ -99,12 +99,12 @@ unfoldable pub wanted_of : File → List Header
 wanted_of e = those (is_wanted e.names) e.headers
 
 -- 31, from the headers on
-unfoldable pub sections_inside : List ℕ → File → Check File
+unfoldable pub sections_inside : List ℕ → File → Result File ℕ
 sections_inside f e = do
   _ ← require (all (ended e.names) e.headers) not_elf
   _ ← require (all (inside f) (wanted_of e)) not_elf
-  pass e
+  Ok e
 
 -- 31: all of it
-unfoldable pub elf_of : List ℕ → Check File
+unfoldable pub elf_of : List ℕ → Result File ℕ
 elf_of f = file_of f >>= sections_inside f

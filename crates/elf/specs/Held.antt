@@ -1,8 +1,8 @@
 -- What the code's values are by the definitions, and what holds of them. Nothing here need be believed.
-use Rattle.std.specs.Prelude.{◌≡◌, ◌≢◌, Option, Some, None, Bool, true, false, not, ◌&&◌, ◌||◌, List, [], ◌∷◌, ◌++◌, map, ℕ, ◌+◌, ◌*◌, ◌-◌, ◌<◌, ◌≤◌, length, slice_index, EachIndex, MatchOption, ◌==◌, nat_le, nat_lt, slice_index_or, if◌then◌else◌}
+use Rattle.std.specs.Prelude.{◌≡◌, ◌≢◌, Option, Some, None, Bool, true, false, not, ◌&&◌, ◌||◌, List, [], ◌∷◌, ◌++◌, map, ℕ, ◌+◌, ◌*◌, ◌-◌, ◌<◌, ◌≤◌, length, slice_index, EachIndex, MatchOption, ◌==◌, nat_le, nat_lt, slice_index_or, if◌then◌else◌, Result, Ok, Err}
 use Rattle.octets.specs.Octets.{number_at, zeros, padded}
 use Rattle.octets.specs.Lists.{all, joined, sum, those}
-use Rattle.octets.specs.Checked.{Check, pass, refuse, ◌>>=◌, require}
+use Rattle.octets.specs.Checked.{◌>>=◌, require}
 use Rattle.bundle.specs.Encoding.{Encoding}
 use Rattle.bundle.specs.Bundle.{filled_up}
 use Rattle.bundle.specs.Written.{Section, section_bytes, written}
@@ -30,13 +30,13 @@ abbrev pub WantedInside : ElfFile → Type 0
 WantedInside e = all (inside e.bytes.now) (wanted_of (file_is e)) ≡ true
 
 -- `file_of` from the name table's header on
-unfoldable pub with_names : List ℕ → Bool → ℕ → ℕ → Header → Check File
+unfoldable pub with_names : List ℕ → Bool → ℕ → ℕ → Header → Result File ℕ
 with_names f big at n t = do
   _ ← require (inside f t) not_elf
-  pass (record { big = big; headers = headers_at big f 0 at n; names = body_of f t })
+  Ok (record { big = big; headers = headers_at big f 0 at n; names = body_of f t })
 
 -- `file_of` from the type on
-unfoldable pub from_type : List ℕ → Bool → Check File
+unfoldable pub from_type : List ℕ → Bool → Result File ℕ
 from_type f big = do
   _ ← require (number_at big 2 f 16 == 1) not_elf
   let at = number_at big 8 f 40
@@ -48,13 +48,13 @@ from_type f big = do
   with_names f big at n (header_at big f table (at + 64 * table))
 
 -- `file32_of` from the name table's header on
-unfoldable pub with_names32 : List ℕ → Bool → ℕ → ℕ → Header → Check File
+unfoldable pub with_names32 : List ℕ → Bool → ℕ → ℕ → Header → Result File ℕ
 with_names32 f big at n t = do
   _ ← require (inside f t) not_elf
-  pass (record { big = big; headers = headers32_at big f 0 at n; names = body_of f t })
+  Ok (record { big = big; headers = headers32_at big f 0 at n; names = body_of f t })
 
 -- `file32_of` from the type on
-unfoldable pub from_type32 : List ℕ → Bool → Check File
+unfoldable pub from_type32 : List ℕ → Bool → Result File ℕ
 from_type32 f big = do
   _ ← require (number_at big 2 f 16 == 1) not_elf
   let at = number_at big 4 f 32
@@ -83,9 +83,9 @@ header_readable e h = not (relocates_wanted e h) && (not (is_wanted e.names h) |
 
 -- ---- the first unit
 -- the word of a version and width, with the address size stated
-unfoldable pub word_with : Encoding → Check ℕ → Check ℕ
-word_with e (pass a) = pass (object_word (with_address e a))
-word_with e (refuse n) = refuse no_unit
+unfoldable pub word_with : Encoding → Result ℕ ℕ → Result ℕ ℕ
+word_with e (Ok a) = Ok (object_word (with_address e a))
+word_with e (Err n) = Err no_unit
 
 -- ---- the sections of some headers
 unfoldable pub section_of : List ℕ → List ℕ → Header → Section
@@ -101,8 +101,8 @@ short_enough s = nat_le (length s.bytes) section_limit
 unfoldable pub room_sum : List Section → ℕ
 room_sum ss = sum (map (λ s. 4 + filled_up (length s.bytes)) ss)
 
-unfoldable pub room_of : List Section → Check ℕ
-room_of ss = if all short_enough ss then pass (room_sum ss) else refuse section_too_long
+unfoldable pub room_of : List Section → Result ℕ ℕ
+room_of ss = if all short_enough ss then Ok (room_sum ss) else Err section_too_long
 
 -- of a file that was opened: the section of header i, if it is wanted, and all of them
 unfoldable pub header_sections : ElfFile → ℕ → List Section

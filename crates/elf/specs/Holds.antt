@@ -1,8 +1,7 @@
 -- What a bundle that was read from a file holds: read as a bundle, it is one object with the wanted sections, in the order of their headers,
 -- each with the bytes that the file has for it, and nothing else.
-use Rattle.std.specs.Prelude.{◌≡◌, List, [], ◌∷◌, map, ℕ}
+use Rattle.std.specs.Prelude.{◌≡◌, List, [], ◌∷◌, map, ℕ, Result, Ok}
 use Rattle.octets.specs.Octets.{part}
-use Rattle.octets.specs.Checked.{Check, pass}
 use Rattle.bundle.specs.Bundle.{Object, Bundle, bundle_of}
 use Rattle.bundle.specs.Written.{Section}
 use Rattle.elf.specs.File.{File, elf_of}
@@ -14,11 +13,11 @@ unfoldable pub sections_of : List ℕ → Object → List Section
 sections_of b o = map (λ p. record { code = p.code; bytes = part b p.start p.size }) o.parts
 
 -- opened is what 31 makes of the file f
-pub record HoldsFile (opened : Check File) (f b : List ℕ) : Type 0 where
+pub record HoldsFile (opened : Result File ℕ) (f b : List ℕ) : Type 0 where
   pub file : File
-  pub elf : opened ≡ pass file
+  pub elf : opened ≡ Ok file
   pub bundle : Bundle
-  pub read : bundle_of b ≡ pass bundle
+  pub read : bundle_of b ≡ Ok bundle
   pub order : bundle.big ≡ file.big
   pub object : Object
   pub one : bundle.objects ≡ object ∷ []

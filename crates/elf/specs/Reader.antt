@@ -1,8 +1,8 @@
 -- An ELF64 file read into a bundle of one object: 31, 32, 33, 19 and 18, in this order (FORMAT 8.2).
-use Rattle.std.specs.Prelude.{Bool, true, false, not, ◌&&◌, ◌||◌, List, [], ◌∷◌, map, ℕ, ◌+◌, ◌*◌, ◌/◌, ◌%◌, length, ◌==◌, nat_le, slice_index, if◌then◌else◌}
+use Rattle.std.specs.Prelude.{Bool, true, false, not, ◌&&◌, ◌||◌, List, [], ◌∷◌, map, ℕ, ◌+◌, ◌*◌, ◌/◌, ◌%◌, length, ◌==◌, nat_le, slice_index, if◌then◌else◌, Result, Ok}
 use Rattle.octets.specs.Octets.{number_at}
 use Rattle.octets.specs.Lists.{all, any}
-use Rattle.octets.specs.Checked.{Check, pass, ◌>>=◌, require}
+use Rattle.octets.specs.Checked.{◌>>=◌, require}
 use Rattle.answers.specs.Answers.{Answer, answered}
 use Rattle.bundle.specs.Encoding.{Encoding}
 use Rattle.bundle.specs.Written.{Section, written}
@@ -51,12 +51,12 @@ encoding_stated big s =
     record { big = big; version = e.version; width = e.width; address = slice_index s (address_place e) }
 
 -- its header passes 11; whether its identity can be read is left to packing
-unfoldable pub unit_stated : Bool → List ℕ → Check Encoding
+unfoldable pub unit_stated : Bool → List ℕ → Result Encoding ℕ
 unit_stated big s = do
   let e = encoding_stated big s
   _ ← require (e.version == dwarf4 || e.version == dwarf5) no_unit
   _ ← require (header_passes e info_code s) no_unit
-  pass e
+  Ok e
 
 -- ---- the bundle
 unfoldable pub object_word : Encoding → ℕ
@@ -67,22 +67,22 @@ unfoldable pub sections_read : List ℕ → File → List Section
 sections_read f e = map (λ h. record { code = code_of e.names h; bytes = body_of f h }) (wanted_of e)
 
 -- of one object with this word: 19
-unfoldable pub bundle_of_word : List ℕ → File → ℕ → Check (List ℕ)
+unfoldable pub bundle_of_word : List ℕ → File → ℕ → Result (List ℕ) ℕ
 bundle_of_word f e word = do
   let ss = sections_read f e
   _ ← require (all (λ s. nat_le (length s.bytes) section_limit) ss) section_too_long
   let b = written e.big (record { word = word; sections = ss } ∷ [])
   _ ← require (nat_le (length b) package_limit) section_too_long
-  pass b
+  Ok b
 
 -- from 32 on, of a file of either class that 31 lets pass
-unfoldable pub bundle_from : List ℕ → File → Check (List ℕ)
+unfoldable pub bundle_from : List ℕ → File → Result (List ℕ) ℕ
 bundle_from f e = do
   _ ← require (all (readable e.headers) (wanted_of e)) unreadable_section
   u ← unit_stated e.big (first_info f e.names (wanted_of e))
   bundle_of_word f e (object_word u)
 
-unfoldable pub bundle_read : List ℕ → Check (List ℕ)
+unfoldable pub bundle_read : List ℕ → Result (List ℕ) ℕ
 bundle_read f = elf_of f >>= bundle_from f
 
 -- for an output of o bytes

@@ -1,11 +1,11 @@
 -- A package written as an ELF64 relocatable file (FORMAT 8.3): ELF header, section bytes, name table, zeros up to a multiple of 8, section headers. 36, 21 and 37,
 -- in this order.
-use Rattle.std.specs.Prelude.{Bool, true, false, ◌&&◌, ◌||◌, List, [], ◌∷◌, ◌++◌, map, ℕ, ◌+◌, ◌*◌, ◌-◌, ◌/◌, nat_le, length, ◌==◌, if◌then◌else◌}
+use Rattle.std.specs.Prelude.{Bool, true, false, ◌&&◌, ◌||◌, List, [], ◌∷◌, ◌++◌, map, ℕ, ◌+◌, ◌*◌, ◌-◌, ◌/◌, nat_le, length, ◌==◌, if◌then◌else◌, Result, Ok, Err}
 use Rattle.numbers.specs.Names.{section_name}
 use Rattle.numbers.specs.Refusals.{other_machine, file_short}
 use Rattle.octets.specs.Octets.{bytes_of, numbers_of, zeros}
 use Rattle.octets.specs.Lists.{joined, those}
-use Rattle.octets.specs.Checked.{Check, pass, refuse, ◌>>=◌, require}
+use Rattle.octets.specs.Checked.{◌>>=◌, require}
 use Rattle.bundle.specs.Bundle.{Part, count, body}
 use Rattle.bundle.specs.Written.{Section}
 use Rattle.lookup.specs.Lookup.{package_of, codes}
@@ -105,21 +105,21 @@ file_bytes big machine ss =
     file_header big machine (aligned end) (length ss + 2) ++ inside ++ zeros (aligned end - end) ++ headers big ss
 
 -- 21
-unfoldable pub file_made : List ℕ → ℕ → Check (List ℕ)
+unfoldable pub file_made : List ℕ → ℕ → Result (List ℕ) ℕ
 file_made p machine = do
   k ← package_of p
-  pass (file_bytes k.encoding.big machine (sections_here p k.parts))
+  Ok (file_bytes k.encoding.big machine (sections_here p k.parts))
 
 -- 36 of a call that takes some machines, then 21
-unfoldable pub file_judged : (ℕ → Bool) → List ℕ → ℕ → Check (List ℕ)
+unfoldable pub file_judged : (ℕ → Bool) → List ℕ → ℕ → Result (List ℕ) ℕ
 file_judged takes p machine = do
   _ ← require (takes machine) other_machine
   file_made p machine
 
 -- 37 comes last: for an output of o bytes
-unfoldable pub in_output : Check (List ℕ) → ℕ → Answer
-in_output (refuse n) o = refused n
-in_output (pass file) o = if nat_le (length file) o then made file else refused file_short
+unfoldable pub in_output : Result (List ℕ) ℕ → ℕ → Answer
+in_output (Err n) o = refused n
+in_output (Ok file) o = if nat_le (length file) o then made file else refused file_short
 
 unfoldable pub elf_written : List ℕ → ℕ → ℕ → Answer
 elf_written p machine o = in_output (file_judged machine_good p machine) o

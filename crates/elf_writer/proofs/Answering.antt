@@ -1,13 +1,9 @@
 -- The answer and the output, case by case.
-use mathlib.Core.Path.{◌≡◌, sym, ap, ◌∙◌}
-use mathlib.Core.Bool.{true, false}
-use mathlib.Core.List.{List}
-use Prim.Native.Nat.{ℕ, ◌-◌, ◌≤◌, ◌<◌}
-use lib.ListN.{length}
-use borrow.Author.Tests.{le-leb, lt-leb}
+use Rattle.std.proofs.Common.{◌≡◌, sym, ap, ◌∙◌, true, false, List, ℕ, ◌-◌, ◌≤◌, ◌<◌, length, le-leb}
+use borrow.Author.Tests.{lt-leb}
 use Rattle.numbers.specs.Refusals.{other_machine, file_short}
 use Rattle.octets.specs.Octets.{zeros, padded}
-use Rattle.octets.specs.Checked.{Check, pass, refuse}
+use Rattle.std.specs.Prelude.{Result, Ok, Err}
 use Rattle.octets.proofs.Checks.{passes, fails, then_pass, then_refuse}
 use Rattle.answers.specs.Answers.{Answer, refused, made, output_of, written_of}
 use Rattle.answers.specs.declared.Written.{Written}
@@ -36,36 +32,36 @@ made_written a f n e l = (λ j. record { code = 0; length = l j }) ∙ sym (ap w
 
 -- ---- 21, 37
 module _ (p : List ℕ) (machine o : ℕ) where
-  pub made_bad : (n : ℕ) → refuse n ≡ opened (package_of p) → in_output (file_made p machine) o ≡ refused n
+  pub made_bad : (n : ℕ) → Err n ≡ opened (package_of p) → in_output (file_made p machine) o ≡ refused n
   unfolding file_made in_output opened
-  made_bad n e = ap (λ (c : Check (List ℕ)). in_output c o) (then_refuse _ _ n (of_refuse head_in (package_of p) n e))
+  made_bad n e = ap (λ (c : Result (List ℕ) ℕ). in_output c o) (then_refuse _ _ n (of_refuse head_in (package_of p) n e))
 
-  module _ (is : package_of p ≡ pass (package_in p)) where
-    file_is : file_made p machine ≡ pass (file_of p machine)
+  module _ (is : package_of p ≡ Ok (package_in p)) where
+    file_is : file_made p machine ≡ Ok (file_of p machine)
     unfolding file_made file_of
     file_is = then_pass _ _ (package_in p) is
 
     pub made_short : o < length (file_of p machine) → in_output (file_made p machine) o ≡ refused file_short
     unfolding in_output
-    made_short h = ap (λ (c : Check (List ℕ)). in_output c o) file_is ∙ rw (in_output, lt-leb (length (file_of p machine)) o h)
+    made_short h = ap (λ (c : Result (List ℕ) ℕ). in_output c o) file_is ∙ rw (in_output, lt-leb (length (file_of p machine)) o h)
 
     pub made_whole : length (file_of p machine) ≤ o → in_output (file_made p machine) o ≡ made (file_of p machine)
     unfolding in_output
-    made_whole h = ap (λ (c : Check (List ℕ)). in_output c o) file_is ∙ rw (in_output, le-leb (length (file_of p machine)) o h)
+    made_whole h = ap (λ (c : Result (List ℕ) ℕ). in_output c o) file_is ∙ rw (in_output, le-leb (length (file_of p machine)) o h)
 
   -- ---- 36
   pub written_machine : machine_good machine ≡ false → elf_written p machine o ≡ refused other_machine
   unfolding elf_written file_judged in_output
-  written_machine e = ap (λ (c : Check (List ℕ)). in_output c o) (fails _ _ _ e)
+  written_machine e = ap (λ (c : Result (List ℕ) ℕ). in_output c o) (fails _ _ _ e)
 
   pub written_is : machine_good machine ≡ true → in_output (file_made p machine) o ≡ elf_written p machine o
   unfolding elf_written file_judged
-  written_is e = ap (λ (c : Check (List ℕ)). in_output c o) (sym (passes _ _ _ e))
+  written_is e = ap (λ (c : Result (List ℕ) ℕ). in_output c o) (sym (passes _ _ _ e))
 
   pub written_for_machine : is_machine machine ≡ false → elf_written_for p machine o ≡ refused other_machine
   unfolding elf_written_for file_judged in_output
-  written_for_machine e = ap (λ (c : Check (List ℕ)). in_output c o) (fails _ _ _ e)
+  written_for_machine e = ap (λ (c : Result (List ℕ) ℕ). in_output c o) (fails _ _ _ e)
 
   pub written_for_is : is_machine machine ≡ true → in_output (file_made p machine) o ≡ elf_written_for p machine o
   unfolding elf_written_for file_judged
-  written_for_is e = ap (λ (c : Check (List ℕ)). in_output c o) (sym (passes _ _ _ e))
+  written_for_is e = ap (λ (c : Result (List ℕ) ℕ). in_output c o) (sym (passes _ _ _ e))

@@ -1,13 +1,5 @@
 -- What a section adds, where it is there and where it is missing.
-use mathlib.Core.Path.{◌≡◌, refl, ap, ◌∙◌}
-use mathlib.Core.Bool.{Bool, true, false}
-use mathlib.Core.List.{List, [], ◌∷◌}
-use mathlib.Core.Logic.{⊎_elim}
-use Prim.Native.Nat.{ℕ, ◌+◌, ◌*◌, ◌≤◌, ◌<◌}
-use native.Mathlib.Omega.{arith}
-use lib.Dec.{leb}
-use lib.ListN.{length, get_or, length-append}
-use borrow.Author.Tests.{leb-true}
+use Rattle.std.proofs.Common.{◌≡◌, refl, ap, ◌∙◌, Bool, true, false, List, [], ◌∷◌, ⊎_elim, ℕ, ◌+◌, ◌*◌, ◌≤◌, ◌<◌, arith, leb, length, get_or, length-append, leb-true}
 use Rattle.octets.specs.Lists.{all}
 use Rattle.octets.proofs.Checks.{known}
 use Rattle.octets.proofs.Elements.{all_at}
@@ -24,7 +16,7 @@ unfolding ended_name
 length_ended name = length-append name (0 ∷ [])
 
 names_all : all (λ (n : List ℕ). leb (length n) 22) section_names ≡ true
-unfolding all section_names dwo_words index_words name_prefix name_suffix dwo_name index_name
+unfolding section_names dwo_words index_words name_prefix name_suffix dwo_name index_name
 names_all = refl
 
 pub name_short : (c : ℕ) → c < 14 → length (section_name c) ≤ 22

@@ -1,10 +1,5 @@
 -- The codes one by one, and what is joined or summed over them.
-use mathlib.Core.Path.{◌≡◌, refl, ap, ◌∙◌}
-use mathlib.Core.List.{List, [], ◌∷◌, ◌++◌, map}
-use Prim.Native.Nat.{ℕ, suc, ◌+◌, ◌-◌, ◌≤◌, ◌<◌}
-use native.Mathlib.Omega.{arith}
-use lib.ListN.{length, drop, drop_of_length-le}
-use lib.Seq.{drop-cons}
+use Rattle.std.proofs.Common.{◌≡◌, refl, ap, ◌∙◌, List, [], ◌∷◌, ◌++◌, map, ℕ, suc, ◌+◌, ◌-◌, ◌≤◌, ◌<◌, arith, length, drop, drop_of_length-le, drop-cons}
 use Rattle.octets.specs.Lists.{joined, sum}
 use Rattle.lookup.specs.Lookup.{codes}
 use Rattle.lookup.proofs.Singles.{codes_at, codes_length}
@@ -28,11 +23,11 @@ unfolding codes_from
 codes_all = refl
 
 pub joined_turn : (f : ℕ → List ℕ) (c : ℕ) → 1 ≤ c → c < 14 → joined_from f c ≡ f c ++ joined_from f (c + 1)
-unfolding joined_from joined
+unfolding joined_from
 joined_turn f c h g = ap (λ (cs : List ℕ). joined (map f cs)) (codes_turn c h g)
 
 pub joined_end : (f : ℕ → List ℕ) (c : ℕ) → 14 ≤ c → joined_from f c ≡ []
-unfolding joined_from joined
+unfolding joined_from
 joined_end f c h = ap (λ (cs : List ℕ). joined (map f cs)) (codes_end c h)
 
 pub sum_turn : (f : ℕ → ℕ) (c : ℕ) → 1 ≤ c → c < 14 → sum_from f c ≡ f c + sum_from f (c + 1)

@@ -1,9 +1,6 @@
 -- Packages written as ELF files, as the checker computes it: the whole file of a package of one unit, whole files of both byte orders, and the refusals.
 -- The bytes come from elsewhere: host/kit/tests/vectors/write-elf.txt has the three files, and docs/OPENING.md reads the first one by hand.
-use mathlib.Core.Path.{◌≡◌, refl}
-use mathlib.Core.Bool.{false}
-use mathlib.Core.List.{List, [], ◌∷◌, ◌++◌}
-use Prim.Native.Nat.{ℕ}
+use Rattle.std.proofs.Common.{◌≡◌, refl, false, List, [], ◌∷◌, ◌++◌, ℕ}
 use Rattle.numbers.specs.Names
 use Rattle.octets.specs.Checked
 use Rattle.octets.specs.Lists
@@ -122,5 +119,5 @@ Examples =
     × (elf_written one_unit 183 535 ≡ refused 37)
 
 pub examples : Examples
-unfolding Names.dwo_words Names.index_words Names.name_prefix Names.name_suffix Names.dwo_name Names.index_name Names.section_names Names.section_name Checked.◌>>=◌ Checked.require Checked.renumbered Lists.joined Lists.all Lists.any Lists.has Lists.distinct Lists.zero_together Lists.those Octets.part Octets.little Octets.big_from Octets.number Octets.number_at Octets.numbers_in Octets.little_of Octets.big_of Octets.bytes_of Octets.numbers_of Octets.zeros Bundle.filled_up Bundle.object_step Bundle.section_step Bundle.end_step Bundle.step_of Bundle.step_at Bundle.followed Bundle.items_from Bundle.items Bundle.leading Bundle.objects_of Bundle.object_first Bundle.bundle_of Bundle.length_good Bundle.parts_of Bundle.count Bundle.first_part Bundle.body Encoding.encoding_of Encoding.encoding_good Columns.columns_four Columns.columns_five Columns.columns_of Index.version_of Index.columns_most Index.code_good Index.power_from Index.least_power Index.slots_good Index.layout Index.index_of Lookup.codes Lookup.package_index Lookup.object_judged Lookup.objects_judged Lookup.package_of Writer.machine_good Writer.sections_here Writer.bodies Writer.table_name Writer.ended_name Writer.name_table Writer.section_header Writer.headers_from Writer.headers Writer.order_code Writer.identification Writer.file_header Writer.aligned Writer.file_bytes Writer.file_judged Writer.in_output Writer.elf_written Writer.is_machine Writer.file_made Writer.elf_written_for
+unfolding Names.dwo_words Names.index_words Names.name_prefix Names.name_suffix Names.dwo_name Names.index_name Names.section_names Names.section_name Checked.◌>>=◌ Checked.require Checked.renumbered Lists.has Lists.distinct Lists.zero_together Octets.part Octets.little Octets.big_from Octets.number Octets.number_at Octets.numbers_in Octets.little_of Octets.big_of Octets.bytes_of Octets.numbers_of Octets.zeros Bundle.filled_up Bundle.object_step Bundle.section_step Bundle.end_step Bundle.step_of Bundle.step_at Bundle.followed Bundle.items_from Bundle.items Bundle.leading Bundle.objects_of Bundle.object_first Bundle.bundle_of Bundle.length_good Bundle.parts_of Bundle.count Bundle.first_part Bundle.body Encoding.encoding_of Encoding.encoding_good Columns.columns_four Columns.columns_five Columns.columns_of Index.version_of Index.columns_most Index.code_good Index.power_from Index.least_power Index.slots_good Index.layout Index.index_of Lookup.codes Lookup.package_index Lookup.object_judged Lookup.objects_judged Lookup.package_of Writer.machine_good Writer.sections_here Writer.bodies Writer.table_name Writer.ended_name Writer.name_table Writer.section_header Writer.headers_from Writer.headers Writer.order_code Writer.identification Writer.file_header Writer.aligned Writer.file_bytes Writer.file_judged Writer.in_output Writer.elf_written Writer.is_machine Writer.file_made Writer.elf_written_for
 examples = (refl, refl, refl, refl, refl, refl, refl, refl, refl, refl, refl, refl, refl, refl)

@@ -1,13 +1,5 @@
 -- The parts by codes of a package that was opened are the definition's.
-use mathlib.Core.Path.{◌≡◌, refl, sym, ap, ap₂, ◌∙◌}
-use mathlib.Core.Bool.{Bool, true, false, ◌&&◌}
-use mathlib.Core.List.{List, [], ◌∷◌, ◌++◌, map}
-use mathlib.Core.Logic.{⊎_elim}
-use Prim.Native.Nat.{ℕ, ◌+◌, ◌%◌, ◌<◌}
-use native.Mathlib.Omega.{arith}
-use lib.Dec.{leb, ltb, eqb}
-use lib.ListN.{length, length-append}
-use borrow.Author.Tests.{leb-true, leb-false, ltb-true}
+use Rattle.std.proofs.Common.{◌≡◌, refl, sym, ap, ap₂, ◌∙◌, Bool, true, false, ◌&&◌, List, [], ◌∷◌, ◌++◌, map, ⊎_elim, ℕ, ◌+◌, ◌%◌, ◌<◌, arith, leb, ltb, eqb, length, length-append, leb-true, leb-false, ltb-true}
 use Rattle.numbers.specs.Names.{section_name}
 use Rattle.octets.specs.Lists.{joined, sum, those, all}
 use Rattle.octets.proofs.Checks.{known, and_left, and_right}
@@ -35,7 +27,7 @@ abbrev names_in : List Section → List ℕ
 names_in xs = joined (map (λ x. w.ended_name (section_name x.code)) xs)
 
 codes_good : all (λ c. ltb c 14) codes ≡ true
-unfolding all codes
+unfolding codes
 codes_good = refl
 
 module _ (p : List ℕ) (h : PackageHead) (o : Opened p h) where
@@ -75,7 +67,7 @@ module _ (p : List ℕ) (h : PackageHead) (o : Opened p h) where
 
   -- ---- over a list of codes
   bodies_of : (cs : List ℕ) → all (λ z. ltb z 14) cs ≡ true → joined (map (body_at p) cs) ≡ w.bodies (sections cs)
-  unfolding joined w.bodies those body_at
+  unfolding w.bodies body_at
   bodies_of [] g = refl
   bodies_of (c ∷ cs) g =
       let l = below c cs g in
@@ -86,7 +78,6 @@ module _ (p : List ℕ) (h : PackageHead) (o : Opened p h) where
       (known (here s c))
 
   names_of : (cs : List ℕ) → all (λ z. ltb z 14) cs ≡ true → joined (map (name_at s) cs) ≡ names_in (sections cs)
-  unfolding joined those
   names_of [] g = refl
   names_of (c ∷ cs) g =
       let l = below c cs g in
@@ -97,7 +88,7 @@ module _ (p : List ℕ) (h : PackageHead) (o : Opened p h) where
       (known (here s c))
 
   counts_of : (cs : List ℕ) → all (λ z. ltb z 14) cs ≡ true → sum (map (counted s) cs) ≡ length (sections cs)
-  unfolding sum those
+  unfolding sum
   counts_of [] g = refl
   counts_of (c ∷ cs) g =
       let l = below c cs g in
@@ -108,14 +99,14 @@ module _ (p : List ℕ) (h : PackageHead) (o : Opened p h) where
       (known (here s c))
 
   sizes_of : (cs : List ℕ) → all (λ z. ltb z 14) cs ≡ true → sum (map (size_at s) cs) ≡ length (joined (map (body_at p) cs))
-  unfolding sum joined body_at
+  unfolding sum body_at
   sizes_of [] g = refl
   sizes_of (c ∷ cs) g =
       omega (arith, length_body c (below c cs g), sizes_of cs (all_tail (λ z. ltb z 14) c cs g), length-append (body p ps c) (joined (map (body_at p) cs)))
 
   headers_of_law : (big : Bool) (table : ℕ) (cs : List ℕ) → all (λ z. ltb z 14) cs ≡ true → (q : HeaderPlace)
       → headers_of big table s q cs ≡ w.headers_from big table q.name q.offset (sections cs)
-  unfolding headers_of w.headers_from those
+  unfolding headers_of w.headers_from
   headers_of_law big table [] g q = refl
   headers_of_law big table (c ∷ cs) g q =
       let l = below c cs g in

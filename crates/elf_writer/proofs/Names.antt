@@ -1,10 +1,5 @@
 -- Names put one behind the other are the name table.
-use mathlib.Core.Path.{◌≡◌, refl, sym, ap, ◌∙◌}
-use mathlib.Core.Bool.{true}
-use mathlib.Core.List.{List, [], ◌∷◌}
-use Prim.Native.Nat.{ℕ, ◌+◌, ◌≤◌}
-use native.Mathlib.Omega.{arith}
-use lib.ListN.{length, length-append}
+use Rattle.std.proofs.Common.{◌≡◌, refl, sym, ap, ◌∙◌, true, List, [], ◌∷◌, ℕ, ◌+◌, ◌≤◌, arith, length, length-append}
 use Rattle.numbers.specs.Names.{section_name}
 use Rattle.octets.specs.Octets.{placed}
 use Rattle.bundle.specs.declared.Scan.{Scan}

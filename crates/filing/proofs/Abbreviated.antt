@@ -1,15 +1,10 @@
 -- The abbreviations that a unit is read with, and the answer of a unit read with them.
-use mathlib.Core.Path.{◌≡◌, refl, sym, ap, ◌∙◌, subst}
-use mathlib.Core.List.{List, [], ◌∷◌}
-use mathlib.Core.Option.{Option, some, none}
-use Prim.Native.Nat.{ℕ, ◌+◌, ◌*◌, ◌-◌, ◌<◌, ◌≤◌}
-use native.Mathlib.Omega.{arith}
-use lib.ListN.{length, take, drop, get_or}
-use lib.Seq.{take-take}
-use borrow.Author.Tests.{le-leb, lt-leb}
+use Rattle.std.proofs.Common.{◌≡◌, refl, sym, ap, ◌∙◌, subst, List, [], ◌∷◌, ℕ, ◌+◌, ◌*◌, ◌-◌, ◌<◌, ◌≤◌, arith, length, take, drop, get_or, take-take, le-leb}
+use Rattle.std.specs.Prelude.{Option, Some, None, Result, Ok, Err}
+use borrow.Author.Tests.{lt-leb}
 use borrow.Rule.Slice.PartMut.{put_mid}
 use Rattle.octets.specs.Octets.{part}
-use Rattle.octets.specs.Checked.{Check, pass, refuse, ◌>>=◌, mapped}
+use Rattle.octets.specs.Checked.{◌>>=◌, mapped}
 use Rattle.octets.proofs.Checks.{fails, passes, then_pass, then_refuse}
 use Rattle.octets.proofs.Parts.{length_part, part_none, part_part, part_cut}
 use Rattle.bundle.specs.Encoding.{Encoding}
@@ -33,7 +28,6 @@ use Rattle.kept.proofs.RegionStores.{codes_within}
 use Rattle.package.specs.Input.{Input}
 use Rattle.package.specs.Filing.{index_by_place, abbreviations_for}
 use Rattle.filing.specs.declared.input.InputObject.{InputObject}
-use Rattle.std.specs.Prelude.{Some, None, Result, Ok, Err}
 use Rattle.numbers.specs.Refused.{number_of, told}
 use Rattle.numbers.specs.declared.refusals.Refusal.{Refusal}
 use Rattle.numbers.specs.declared.refusals.Refusal.TheVariants.{NoRow, BadRow}
@@ -49,29 +43,29 @@ use Rattle.filing.specs.Asked.{PlaceAsked}
 use Rattle.kept.proofs.RegionLending.{only_lent, lent_is, lent_length, lent_left}
 
 -- ---- a row's abbrev part
-cell_none : (o : Option Contribution) → None ≡ cell_found o → o ≡ none
+cell_none : (o : Option Contribution) → None ≡ cell_found o → o ≡ None
 unfolding cell_found
-cell_none none e = refl
-cell_none (some c) e = absurd (let z : ◌≡◌ {A = ℕ} 0 1 = cc in omega arith)
+cell_none None e = refl
+cell_none (Some c) e = absurd (let z : ◌≡◌ {A = ℕ} 0 1 = cc in omega arith)
 
-cell_some : (k : Option Contribution) (v : cell.Contribution) → Some v ≡ cell_found k → k ≡ some (record { offset = v.offset; size = v.size })
+cell_some : (k : Option Contribution) (v : cell.Contribution) → Some v ≡ cell_found k → k ≡ Some (record { offset = v.offset; size = v.size })
 unfolding cell_found
-cell_some (some c) v e = let p : v ≡ record { offset = c.offset; size = c.size } = cc in rw p
-cell_some none v e = absurd (let y : ◌≡◌ {A = ℕ} 0 1 = cc in omega arith)
+cell_some (Some c) v e = let p : v ≡ record { offset = c.offset; size = c.size } = cc in rw p
+cell_some None v e = absurd (let y : ◌≡◌ {A = ℕ} 0 1 = cc in omega arith)
 
 module _ (i : Index) (row : ℕ) where
-  part_missing : (s : List ℕ) → 0 < length s → cell_of i row 3 ≡ none → abbrev_part i row s ≡ refuse 15
+  part_missing : (s : List ℕ) → 0 < length s → cell_of i row 3 ≡ None → abbrev_part i row s ≡ Err 15
   unfolding abbrev_part
   part_missing [] h e = absurd (omega arith)
   part_missing (b ∷ s) h e = rw (abbrev_part, e)
 
   module _ (c : Contribution) where
-    part_outside : (s : List ℕ) → 0 < length s → cell_of i row 3 ≡ some c → length s < c.offset + c.size → abbrev_part i row s ≡ refuse 16
+    part_outside : (s : List ℕ) → 0 < length s → cell_of i row 3 ≡ Some c → length s < c.offset + c.size → abbrev_part i row s ≡ Err 16
     unfolding abbrev_part
     part_outside [] h e l = absurd (omega arith)
     part_outside (b ∷ s) h e l = rw (abbrev_part, e) (fails _ 16 _ (lt-leb (c.offset + c.size) (length (b ∷ s)) l))
 
-    part_inside : (s : List ℕ) → 0 < length s → cell_of i row 3 ≡ some c → c.offset + c.size ≤ length s → abbrev_part i row s ≡ pass (part s c.offset c.size)
+    part_inside : (s : List ℕ) → 0 < length s → cell_of i row 3 ≡ Some c → c.offset + c.size ≤ length s → abbrev_part i row s ≡ Ok (part s c.offset c.size)
     unfolding abbrev_part
     part_inside [] h e l = absurd (omega arith)
     part_inside (b ∷ s) h e l = rw (abbrev_part, e) (passes _ 16 _ (le-leb (c.offset + c.size) (length (b ∷ s)) l))
@@ -117,7 +111,7 @@ module _ (b : List ℕ) (x : InputObject) (i : Input) (is : InputIs b x i) (home
       → AbbreviationsAre b (abbreviations_for i home at size) (Ok (record { at = get_or x.start 3 0; end = get_or x.start 3 0 + get_or x.size 3 0 }))
   unfolding abbreviations_for section_of
   given_whole e =
-      let q : index_by_place i home ≡ none = sym (found_none _ e) in
+      let q : index_by_place i home ≡ None = sym (found_none _ e) in
       tells_pass _ (i.bytes 3) (rw (abbreviations_for, q))
       (record { is = part_cut b (get_or x.start 3 0) (get_or x.size 3 0) ∙ sym (is.bytes 3 (omega arith)); lies = (omega arith, is.within 3) })
 
@@ -126,10 +120,10 @@ module _ (b : List ℕ) (x : InputObject) (i : Input) (is : InputIs b x i) (home
     unfolding abbreviations_for
     by_row = rw (abbreviations_for, ← found_some idx _ e)
 
-    pub given_none : (r : Refusal) → refuse (number_of r) ≡ the_one (naming idx at size) → AbbreviationsAre b (abbreviations_for i home at size) (Err r)
+    pub given_none : (r : Refusal) → Err (number_of r) ≡ the_one (naming idx at size) → AbbreviationsAre b (abbreviations_for i home at size) (Err r)
     given_none r z = tells_refuse r (by_row ∙ then_refuse _ _ (number_of r) (sym z))
 
-    pub given_part : (row : ℕ) → pass row ≡ the_one (naming idx at size) → (r : Result Span Refusal) → AbbreviationsAre b (abbrev_part idx row section) r → AbbreviationsAre b (abbreviations_for i home at size) r
+    pub given_part : (row : ℕ) → Ok row ≡ the_one (naming idx at size) → (r : Result Span Refusal) → AbbreviationsAre b (abbrev_part idx row section) r → AbbreviationsAre b (abbreviations_for i home at size) r
     unfolding section_of
     given_part row z r k = tells_same (sym (by_row ∙ then_pass _ _ row (sym z) ∙ ap (abbrev_part idx row) (is.bytes 3 (omega arith)))) k
 
@@ -149,11 +143,11 @@ module _ {r : Reading} {at : ℕ} {w : List ℕ} (p : PlaceAsked r at w) where
   abbrev pub rest : List ℕ
   rest = take (h.stop - at) (drop at b)
 
-  abbrev checked : Input → Check read.UnitRead
+  abbrev checked : Input → Result read.UnitRead ℕ
   checked i = unit_by i.encoding h.home (abbreviations_for i h.home (at - h.start)) (part b at (h.stop - at))
 
   abbrev Refuses : Input → Refusal → Type 0
-  Refuses i e = refuse (number_of e) ≡ checked i
+  Refuses i e = Err (number_of e) ≡ checked i
 
   parts_are : (i : Input) → InputIs b x i
       → unit_by i.encoding h.home (abbreviations_for i h.home (at - h.start)) (part b at (h.stop - at))
@@ -163,10 +157,10 @@ module _ {r : Reading} {at : ℕ} {w : List ℕ} (p : PlaceAsked r at w) where
       ap (λ (e : Encoding). unit_by e h.home (abbreviations_for i h.home (at - h.start)) rest) (sym is.encoding)
       ∙ unit_parts (encoding_is x.encoding) h.home (abbreviations_for i h.home (at - h.start)) rest
 
-  pub read_headless : (n : Refusal) (i : Input) → InputIs b x i → refuse (number_of n) ≡ head_of (encoding_is x.encoding) rest → Refuses i n
+  pub read_headless : (n : Refusal) (i : Input) → InputIs b x i → Err (number_of n) ≡ head_of (encoding_is x.encoding) rest → Refuses i n
   read_headless n i is e = sym (parts_are i is ∙ then_refuse _ _ (number_of n) (sym e))
 
-  module _ (size : ℕ) (e : head_of (encoding_is x.encoding) rest ≡ pass size) where
+  module _ (size : ℕ) (e : head_of (encoding_is x.encoding) rest ≡ Ok size) where
     pub size_within : (at + size ≤ length b) × (size ≤ h.stop - at) × (common_size (encoding_is x.encoding) ≤ size)
     unfolding part
     size_within =
@@ -187,7 +181,7 @@ module _ {r : Reading} {at : ℕ} {w : List ℕ} (p : PlaceAsked r at w) where
       unfolding part
       read_on =
           let l = k.passes a refl in
-          parts_are i is ∙ then_pass _ _ size e ∙ then_pass _ _ (span_bytes b a) (l.1 ∙ ap pass (sym l.2.is))
+          parts_are i is ∙ then_pass _ _ size e ∙ then_pass _ _ (span_bytes b a) (l.1 ∙ ap Ok (sym l.2.is))
           ∙ rw (eu, take-take size (h.stop - at) (drop at b) size_within.1)
 
       pub read_unidentified : (n : Refusal) → Identified (Err n) → Refuses i n

@@ -1,19 +1,12 @@
 -- One unit that was read, as code files it.
-use mathlib.Core.Path.{◌≡◌, refl, sym, ap, ap₂, ◌∙◌, subst}
-use mathlib.Core.Bool.{Bool, true, false}
-use mathlib.Core.List.{List, [], ◌∷◌, ◌++◌, append_assoc}
-use mathlib.Core.Option.{Option, none}
-use Prim.Native.Nat.{ℕ, ◌+◌, ◌<◌, ◌≤◌}
-use native.Mathlib.Omega.{arith}
+use Rattle.std.proofs.Common.{◌≡◌, refl, sym, ap, ap₂, ◌∙◌, subst, Bool, true, false, List, [], ◌∷◌, ◌++◌, append_assoc, ℕ, ◌+◌, ◌<◌, ◌≤◌, arith, length, take}
+use Rattle.std.specs.Prelude.{Option, Result, Ok, Err, None}
 use native.Mathlib.Decide.{ℕ_discrete}
-use lib.ListN.{length, take}
 use Rattle.octets.specs.Octets.{part}
 use Rattle.octets.specs.Lists.{any, same}
-use Rattle.std.specs.Prelude.{Result, Ok, Err}
 use Rattle.numbers.specs.Refused.{number_of}
 use Rattle.numbers.specs.declared.refusals.Refusal.{Refusal}
 use Rattle.numbers.specs.declared.refusals.Refusal.TheVariants.{IdentitySeen}
-use Rattle.octets.specs.Checked.{pass}
 use Rattle.octets.proofs.Parts.{length_part}
 use Rattle.unit.specs.UnitRead.{UnitRead}
 use Rattle.index.specs.Index.{Contribution}
@@ -95,7 +88,7 @@ module _ {b : List ℕ} {x : InputObject} {i : Input} {place : ℕ} {w : List �
       seen = sym (any_kept table identity us) ∙ first_any table identity (kept us) k.unit first
 
       abbrev skipped : Filed
-      skipped = unit (λ c. none)
+      skipped = unit (λ c. None)
 
       agrees_is : same (take size s) k.unit.bytes ≡ agrees_with b number place size w
       agrees_is = ap₂ same bytes (sym k.bytes)
@@ -104,7 +97,7 @@ module _ {b : List ℕ} {x : InputObject} {i : Input} {place : ℕ} {w : List �
       held_skipped =
           subst (Held five b n (place + size) w (skipped_one st (agrees_with b number place size w)) bases) (append_assoc earlier here (skipped ∷ []))
           (subst (λ (z : Bool). Held five b n (place + size) w (skipped_one st z) bases (us ++ (skipped ∷ []))) agrees_is
-          (held_skip a.held size skipped k.unit seen first (unit_good (λ c. none)) r.least fits))
+          (held_skip a.held size skipped k.unit seen first (unit_good (λ c. None)) r.least fits))
 
       answer_skipped : (table ≡ 1 → ⊥)
           → UnitIs b x i place w w st (skipped_one st (agrees_with b number place size w)) bases earlier here (unit_at i bases earlier here home at s) (Ok size)
@@ -128,7 +121,7 @@ module _ {b : List ℕ} {x : InputObject} {i : Input} {place : ℕ} {w : List �
       answer_bad v next n g = tells_refuse n (unit_bad i bases earlier here home at s size table identity r (number_of n) e (g.refuses n refl))
 
       module _ (k : Contributions) (g : GivenIs (contributions_of i home at read) (Ok k)) where
-        given : (f : BySection (Option Contribution)) × (contributions_of i home at read ≡ pass f) × ContributionsAre k f
+        given : (f : BySection (Option Contribution)) × (contributions_of i home at read ≡ Ok f) × ContributionsAre k f
         given = g.passes k refl
 
         abbrev new : Filed

@@ -1,16 +1,8 @@
 -- Rows by place: the index that has them, their chains in work, and the one row of a place.
-use mathlib.Core.Path.{◌≡◌, refl, sym, ap, ◌∙◌, subst}
-use mathlib.Core.Bool.{Bool, true, false, not, ◌&&◌}
-use mathlib.Core.Logic.{⊎_elim}
-use mathlib.Core.List.{List, [], ◌∷◌}
-use mathlib.Core.Option.{some, none}
-use Prim.Native.Nat.{ℕ, zero, suc, ◌+◌, ◌*◌, ◌-◌, ◌/◌, ◌^◌, ◌<◌, ◌≤◌}
-use native.Mathlib.Omega.{arith}
-use lib.Dec.{eqb}
-use lib.ListN.{length, take, drop, get_or}
+use Rattle.std.proofs.Common.{◌≡◌, refl, sym, ap, ◌∙◌, subst, Bool, true, false, not, ◌&&◌, ⊎_elim, List, [], ◌∷◌, ℕ, zero, suc, ◌+◌, ◌*◌, ◌-◌, ◌/◌, ◌^◌, ◌<◌, ◌≤◌, arith, eqb, length, take, drop, get_or}
+use Rattle.std.specs.Prelude.{Some, None, Ok}
 use borrow.Rule.Slice.PartMut.{put_mid}
 use Rattle.octets.specs.Lists.{those}
-use Rattle.octets.specs.Checked.{pass}
 use Rattle.octets.proofs.Checks.{known, pass_inj, pass_refuse}
 use Rattle.octets.proofs.Lists.{those_keeps, those_skips}
 use Rattle.octets.proofs.Parts.{length_part}
@@ -27,7 +19,6 @@ use Rattle.kept.proofs.RegionStores.{rows_within}
 use Rattle.package.specs.Input.{Input}
 use Rattle.package.specs.Filing.{index_by_place}
 use Rattle.filing.specs.declared.input.InputObject.{InputObject}
-use Rattle.std.specs.Prelude.{Some, None}
 use Rattle.octets.specs.Options.{found}
 use Rattle.bundle.proofs.Units.{found_some, found_none}
 use Rattle.filing.specs.declared.units.Reading.{Reading}
@@ -39,25 +30,25 @@ use Rattle.filing.proofs.Entering.{five_is}
 use Rattle.kept.proofs.RegionLending.{only_same, lent_length, lent_left}
 
 -- ---- the one row
-one_above : (f : ℕ → Bool) (n r : ℕ) → the_one (those f (row_numbers n)) ≡ pass r → (0 < r) × (r ≤ n)
-unfolding row_numbers the_one those
+one_above : (f : ℕ → Bool) (n r : ℕ) → the_one (those f (row_numbers n)) ≡ Ok r → (0 < r) × (r ≤ n)
+unfolding row_numbers the_one
 one_above f zero r e = absurd (pass_refuse r 15 (sym e))
 one_above f (suc n) r e = ⊎_elim
     (λ p. first (those f (row_numbers n)) (sym (ap the_one (those_keeps f (suc n) (row_numbers n) p)) ∙ e))
     (λ p. let h = one_above f n r (sym (ap the_one (those_skips f (suc n) (row_numbers n) p)) ∙ e) in (h.0, omega (arith, h.1)))
     (known (f (suc n)))
   where
-    first : (rs : List ℕ) → the_one (suc n ∷ rs) ≡ pass r → (0 < r) × (r ≤ suc n)
+    first : (rs : List ℕ) → the_one (suc n ∷ rs) ≡ Ok r → (0 < r) × (r ≤ suc n)
     first [] q = let z : suc n ≡ r = pass_inj q in (omega arith, omega arith)
     first (x ∷ rs) q = absurd (pass_refuse r 15 (sym q))
 
 module _ (i : Index) (at size : ℕ) where
-  pub row_counted : (row : ℕ) → pass row ≡ the_one (naming i at size) → (0 < row) × (row ≤ i.units)
+  pub row_counted : (row : ℕ) → Ok row ≡ the_one (naming i at size) → (0 < row) × (row ≤ i.units)
   unfolding naming
   row_counted row e = one_above _ i.units row (sym e)
 
 -- ---- an index that is there
-held_at : (big : Bool) (s : List ℕ) (y : Indexed) (idx : Index) → IndexedIs big s y (some idx) → (head : IndexHead) × ReadWell big s head × (idx ≡ index_in big s head)
+held_at : (big : Bool) (s : List ℕ) (y : Indexed) (idx : Index) → IndexedIs big s y (Some idx) → (head : IndexHead) × ReadWell big s head × (idx ≡ index_in big s head)
 unfolding IndexedIs
 held_at big s (Some head) idx h = (head, h.0, h.1)
 held_at big s None idx h = absurd h
@@ -68,16 +59,16 @@ module _ (b : List ℕ) (x : InputObject) (i : Input) (is : InputIs b x i) (home
   unfolding index_by_place is_five
   by_place_cu e = rw (index_by_place, ← five_is x.encoding i.encoding is.encoding, e)
 
-  pub by_place_none : (not x.encoding.five && eqb home 1) ≡ false → index_by_place i home ≡ none
+  pub by_place_none : (not x.encoding.five && eqb home 1) ≡ false → index_by_place i home ≡ None
   unfolding index_by_place is_five
   by_place_none e = rw (index_by_place, ← five_is x.encoding i.encoding is.encoding, e)
 
   -- three words for each slot, and more slots than rows
-  module _ (idx : Index) (e : index_by_place i home ≡ some idx) where
-    cu_there : i.cu_index ≡ some idx
-    cu_there = elim (not x.encoding.five && eqb home 1) as (λ t. (not x.encoding.five && eqb home 1) ≡ t → i.cu_index ≡ some idx) [
+  module _ (idx : Index) (e : index_by_place i home ≡ Some idx) where
+    cu_there : i.cu_index ≡ Some idx
+    cu_there = elim (not x.encoding.five && eqb home 1) as (λ t. (not x.encoding.five && eqb home 1) ≡ t → i.cu_index ≡ Some idx) [
       | true ↦ λ t. sym (by_place_cu t) ∙ e
-      | false ↦ λ t. absurd (let z : none ≡ some idx = sym (by_place_none t) ∙ e in let y : ◌≡◌ {A = ℕ} 0 1 = cc in omega arith)
+      | false ↦ λ t. absurd (let z : None ≡ Some idx = sym (by_place_none t) ∙ e in let y : ◌≡◌ {A = ℕ} 0 1 = cc in omega arith)
     ] refl
 
     pub few_rows : 12 * idx.units + 16 ≤ length b

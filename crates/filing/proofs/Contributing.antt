@@ -1,18 +1,10 @@
 -- 15 and 16: the numbers of refusals, and that only the codes of shared sections count.
-use mathlib.Core.Path.{◌≡◌, refl, sym, ap, ap₂, ◌∙◌, subst}
-use mathlib.Core.Bool.{Bool, true, false, not, ◌&&◌, ◌||◌}
-use mathlib.Core.List.{List, [], ◌∷◌}
-use mathlib.Core.Option.{Option, some, none}
-use Prim.Native.Nat.{ℕ, ◌<◌}
-use native.Mathlib.Omega.{arith}
-use lib.Dec.{eqb, ltb}
-use lib.ListN.{length, get_or}
-use borrow.Author.Tests.{eq-eqb, ltb-true}
+use Rattle.std.proofs.Common.{◌≡◌, refl, sym, ap, ap₂, ◌∙◌, subst, Bool, true, false, not, ◌&&◌, ◌||◌, List, [], ◌∷◌, ℕ, ◌<◌, arith, eqb, ltb, length, get_or, eq-eqb, ltb-true}
+use Rattle.std.specs.Prelude.{Option, Result, Ok, Err, if◌then◌else◌, Some, None, is_some as code_some}
 use Rattle.octets.specs.Lists.{all, those, has}
-use Rattle.std.specs.Prelude.{Result, Ok, Err, if◌then◌else◌}
 use Rattle.numbers.specs.declared.refusals.Refusal.{Refusal}
 use Rattle.numbers.specs.declared.refusals.Refusal.TheVariants.{NoRow}
-use Rattle.octets.specs.Checked.{Check, pass, refuse, ◌>>=◌, require}
+use Rattle.octets.specs.Checked.{◌>>=◌, require}
 use Rattle.octets.proofs.Lists.{any_stops, any_more}
 use Rattle.octets.proofs.Parts.{length_part}
 use Rattle.bundle.specs.Encoded.{four, encoding_is}
@@ -35,23 +27,21 @@ use Rattle.filing.proofs.Telling.{tells_pass, tells_refuse, tells_value}
 use Rattle.filing.proofs.Entering.{five_is}
 use Rattle.filing.specs.Contributing.{whole_given, contributions_by, GivenIs}
 use Rattle.filing.specs.declared.input.InputObject.{InputObject}
-use Rattle.std.specs.Prelude.{Some, None}
-use Rattle.std.specs.Prelude.{is_some as code_some}
 use Rattle.octets.specs.Options.{found}
 use Rattle.bundle.proofs.Units.{found_some, found_none}
 use Rattle.index.specs.Contributed.{Answers}
 
 -- ---- an index by value, as code holds it
 module _ (big : Bool) (s : List ℕ) (indexed : Indexed) where
-  index_well : (o : Option Index) → IndexedIs big s indexed o → (head : IndexHead) → indexed ≡ Some head → ReadWell big s head × (o ≡ some (index_in big s head))
+  index_well : (o : Option Index) → IndexedIs big s indexed o → (head : IndexHead) → indexed ≡ Some head → ReadWell big s head × (o ≡ Some (index_in big s head))
   unfolding IndexedIs
-  index_well none is head e = absurd (rw e at is)
-  index_well (some y) is head e = let h : ReadWell big s head × (y ≡ index_in big s head) = rw e at is in (h.0, ap some h.1)
+  index_well None is head e = absurd (rw e at is)
+  index_well (Some y) is head e = let h : ReadWell big s head × (y ≡ index_in big s head) = rw e at is in (h.0, ap Some h.1)
 
   pub held_none : (o : Option Index) → IndexedIs big s indexed o → indexed ≡ None → None ≡ found o
   unfolding IndexedIs
-  held_none none is e = refl
-  held_none (some y) is e = absurd (rw e at is)
+  held_none None is e = refl
+  held_none (Some y) is e = absurd (rw e at is)
 
   module _ (o : Option Index) (is : IndexedIs big s indexed o) (head : IndexHead) (e : indexed ≡ Some head) where
     pub held_some : Some (index_in big s head) ≡ found o
@@ -66,12 +56,12 @@ module _ (big : Bool) (s : List ℕ) (indexed : Indexed) where
 pub ruleset held_cases = (held_none, held_some, held_sized, held_well)
 
 -- ---- an answer by an index
-answers_given : (m : Check (BySection (Option Contribution))) (r : Result Contributions Refusal) → Answers r m → GivenIs m r
+answers_given : (m : Result (BySection (Option Contribution)) ℕ) (r : Result Contributions Refusal) → Answers r m → GivenIs m r
 unfolding Answers
-answers_given (pass f) (Ok k) h = tells_pass k f refl h
-answers_given (pass f) (Err e) h = absurd h
-answers_given (refuse n) (Ok k) h = absurd h
-answers_given (refuse n) (Err e) h = tells_refuse e (ap refuse (sym h))
+answers_given (Ok f) (Ok k) h = tells_pass k f refl h
+answers_given (Ok f) (Err e) h = absurd h
+answers_given (Err n) (Ok k) h = absurd h
+answers_given (Err n) (Err e) h = tells_refuse e (ap Err (sym h))
 
 module _ (packed : Bool) (o : Option Index) (width : ℕ) (ls : BySection ℕ) (x home at size : ℕ) (r : Result Contributions Refusal) where
   pub given_none : None ≡ found o → GivenIs (whole_given packed ls) r → GivenIs (contributions_by packed o width ls x home at size) r
@@ -93,17 +83,17 @@ whole_passes packed ls k e h = rw e (tells_pass k (whole_contributions ls) refl 
 
 -- ---- only shared codes count
 pub shared_below : (c : ℕ) → has shared c ≡ true → c < 14
-unfolding shared all
+unfolding shared
 shared_below c h = ltb-true c 14 (all_has (λ d. ltb d 14) shared c refl h)
 
 all_same : (p q : ℕ → Bool) (xs : List ℕ) → ((c : ℕ) → has xs c ≡ true → p c ≡ q c) → all p xs ≡ all q xs
-unfolding all has
+unfolding has
 all_same p q [] e = refl
 all_same p q (x ∷ xs) e =
-    ap₂ (λ (t r : Bool). (if t then r else false)) (e x (any_stops (eqb x) x xs (eq-eqb x x refl))) (all_same p q xs (λ c h. e c (any_more (eqb c) x xs h)))
+    ap₂ (λ (t r : Bool). (t && r)) (e x (any_stops (eqb x) x xs (eq-eqb x x refl))) (all_same p q xs (λ c h. e c (any_more (eqb c) x xs h)))
 
 those_same : (p q : ℕ → Bool) (xs : List ℕ) → ((c : ℕ) → has xs c ≡ true → p c ≡ q c) → those p xs ≡ those q xs
-unfolding those has
+unfolding has
 those_same p q [] e = refl
 those_same p q (x ∷ xs) e =
     ap₂ (λ (t : Bool) (r : List ℕ). (if t then x ∷ r else r)) (e x (any_stops (eqb x) x xs (eq-eqb x x refl))) (those_same p q xs (λ c h. e c (any_more (eqb c) x xs h)))
@@ -124,12 +114,12 @@ module _ (f g : BySection ℕ) (same : (c : ℕ) → c < 14 → f c ≡ g c) whe
   ] refl
 
   module _ (i : Index) (width x home at size : ℕ) where
-    abbrev body : List ℕ → (ℕ → Bool) → Check (BySection (Option Contribution))
+    abbrev body : List ℕ → (ℕ → Bool) → Result (BySection (Option Contribution)) ℕ
     body needed steps =
         row_of i (probe i x) >>= λ row.
         (require (all (λ s. is_some (cell_of i row s)) (home ∷ needed)) 15 >>= λ _.
         (require (cell_is (own_place at size) (cell_of i row home)) 16 >>= λ _.
-        (require (steps row) 16 >>= λ _. pass (λ s. if has needed s then cell_of i row s else none))))
+        (require (steps row) 16 >>= λ _. Ok (λ s. if has needed s then cell_of i row s else None))))
 
     row_same : row_contributions i width f x home at size ≡ row_contributions i width g x home at size
     unfolding row_contributions part_good
@@ -145,10 +135,10 @@ module _ (b : List ℕ) (x : InputObject) (i : Input) (is : InputIs b x i) where
 
   there_is : (s : List ℕ) (indexed : Indexed) (o : Option Index) → IndexedIs x.encoding.big s indexed o → code_some indexed ≡ is_some o
   unfolding IndexedIs is_some
-  there_is s (Some h) (some y) k = refl
-  there_is s (Some h) none k = absurd k
-  there_is s None (some y) k = absurd k
-  there_is s None none k = refl
+  there_is s (Some h) (Some y) k = refl
+  there_is s (Some h) None k = absurd k
+  there_is s None (Some y) k = absurd k
+  there_is s None None k = refl
 
   pub packed_is : packed_by x ≡ is_package i
   unfolding packed_by is_package is_five encoding_is
@@ -166,12 +156,12 @@ module _ (b : List ℕ) (x : InputObject) (i : Input) (is : InputIs b x i) where
         → GivenIs (contributions_by packed o width (by_code x.size) identity home at size) r
         → GivenIs (contributions_of i home at (record { size = size; table = table; identity = identity })) r
     unfolding contributions_of contributions_by whole_given
-    given_is (some y) e width q packed p a =
+    given_is (Some y) e width q packed p a =
         rw (contributions_of, e)
-        (subst (λ (m : Check (BySection (Option Contribution))). GivenIs m r)
+        (subst (λ (m : Result (BySection (Option Contribution)) ℕ). GivenIs m r)
         (row_same (by_code x.size) (lengths i) lengths_are y width identity home at size
         ∙ ap (λ (z : ℕ). row_contributions y z (lengths i) identity home at size) (q ∙ ap (λ (z : _). z.width) is.encoding)) a)
-    given_is none e width q packed p a = rw (contributions_of, e) (subst (λ (t : Bool). GivenIs (whole_given t (lengths i)) r) (p ∙ packed_is) (whole_width packed a))
+    given_is None e width q packed p a = rw (contributions_of, e) (subst (λ (t : Bool). GivenIs (whole_given t (lengths i)) r) (p ∙ packed_is) (whole_width packed a))
 
 pub width_some : (e : ObjectEncoding) (n : ℕ) → n ≡ (encoding_is e).width → 0 < n
 unfolding encoding_is four

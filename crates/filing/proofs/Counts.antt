@@ -1,11 +1,5 @@
 -- 6 and 7 by counts: the cases of the code, and that they are the definitions.
-use mathlib.Core.Path.{◌≡◌, refl}
-use mathlib.Core.Bool.{Bool, true, false, not, ◌&&◌, ◌||◌}
-use mathlib.Core.List.{List, [], ◌∷◌}
-use Prim.Native.Nat.{ℕ}
-use native.Mathlib.Omega.{arith}
-use lib.Dec.{leb, ltb}
-use lib.ListN.{get_or}
+use Rattle.std.proofs.Common.{◌≡◌, refl, Bool, true, false, not, ◌&&◌, ◌||◌, List, [], ◌∷◌, ℕ, arith, leb, ltb, get_or}
 use Rattle.std.specs.List.{list_all}
 use Rattle.std.proofs.lemmas.Bool.Decides.{nat_tests}
 use Rattle.octets.specs.Lists.{all}
@@ -21,7 +15,6 @@ not_below : (n x : ℕ) → ltb x n ≡ not (leb n x)
 not_below n x = grind (arith, nat_tests)
 
 pub none_listed : (counts : List ℕ) (least : ℕ) (cs : List ℕ) → list_all (λ c. ltb (get_or counts c 0) least) cs ≡ all (λ c. not (leb least (get_or counts c 0))) cs
-unfolding all
 none_listed counts least [] = refl
 none_listed counts least (c ∷ cs) = rw (not_below least (get_or counts c 0), none_listed counts least cs) (grind (arith, nat_tests))
 
@@ -37,7 +30,7 @@ beside_is e true h ps = rw h
 beside_is e false h ps = rw h
 
 pub edition_is : (e : ObjectEncoding) (ps : List Part) → edition_by e.five (by_code (count ps)) ≡ edition_good (encoding_is e) ps
-unfolding edition_by edition_good present repeated by_code numbered only_once all wrong_for
+unfolding edition_by edition_good present repeated by_code numbered only_once wrong_for
 edition_is e ps = go e.five refl
   where
     go : (f : Bool) → e.five ≡ f → edition_by f (by_code (count ps)) ≡ edition_good (encoding_is e) ps

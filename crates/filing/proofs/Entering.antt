@@ -1,11 +1,5 @@
 -- Into an object and out of it: what is held between objects, and while its units are filed.
-use mathlib.Core.Path.{◌≡◌, refl, sym, ap, ◌∙◌, subst}
-use mathlib.Core.Bool.{Bool, true, false}
-use mathlib.Core.List.{List, [], ◌++◌, append-nil}
-use Prim.Native.Nat.{ℕ, ◌+◌, ◌<◌, ◌≤◌}
-use native.Mathlib.Omega.{arith}
-use lib.Dec.{eqb}
-use lib.ListN.{length, get_or}
+use Rattle.std.proofs.Common.{◌≡◌, refl, sym, ap, ◌∙◌, subst, Bool, true, false, List, [], ◌++◌, append-nil, ℕ, ◌+◌, ◌<◌, ◌≤◌, arith, eqb, length, get_or}
 use Rattle.bundle.specs.Encoding.{Encoding, encoding_of}
 use Rattle.bundle.specs.Encoded.{encoding_is, four}
 use Rattle.bundle.specs.declared.encoding.ObjectEncoding.{ObjectEncoding}

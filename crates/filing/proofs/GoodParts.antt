@@ -1,12 +1,8 @@
 -- 8 and 9 part by part, as code judges them: first where the first part starts that 8 refuses, then the strings of those before it.
-use mathlib.Core.Path.{◌≡◌, refl, sym, ap, ◌∙◌, subst}
-use mathlib.Core.Logic.{⊎_elim}
-use mathlib.Core.List.{List, [], ◌∷◌, ◌++◌, map}
-use Prim.Native.Nat.{ℕ, ◌+◌, ◌-◌, ◌<◌, ◌≤◌}
-use native.Mathlib.Omega.{arith}
-use lib.ListN.{length}
+use Rattle.std.proofs.Common.{◌≡◌, refl, sym, ap, ◌∙◌, subst, ⊎_elim, List, [], ◌∷◌, ◌++◌, map, ℕ, ◌+◌, ◌-◌, ◌<◌, ◌≤◌, arith, length}
 use Rattle.octets.specs.Octets.{part}
-use Rattle.octets.specs.Checked.{Check, pass, refuse, ◌>>=◌}
+use Rattle.std.specs.Prelude.{Result, Ok, Err}
+use Rattle.octets.specs.Checked.{◌>>=◌}
 use Rattle.octets.proofs.Checks.{then_pass, then_refuse, bind_pass, bind_refuse, pass_inj, pass_refuse, refuse_inj}
 use Rattle.octets.proofs.Parts.{part_add, part_none, length_part}
 use Rattle.bundle.specs.Encoding.{Encoding}
@@ -23,63 +19,63 @@ module _ (e : Encoding) (str s : List ℕ) where
   -- the parts before the first one that 8 refuses
   unfoldable pub good_parts : List Contribution → List Contribution
   good_parts [] = []
-  good_parts (t ∷ ts) = elim (entries_of e (part_of s t)) [ pass ns ↦ t ∷ good_parts ts | refuse n ↦ [] ]
+  good_parts (t ∷ ts) = elim (entries_of e (part_of s t)) [ Ok ns ↦ t ∷ good_parts ts | Err n ↦ [] ]
 
-  good_cons : (t : Contribution) (ts : List Contribution) (ns : List ℕ) → entries_of e (part_of s t) ≡ pass ns → good_parts (t ∷ ts) ≡ t ∷ good_parts ts
+  good_cons : (t : Contribution) (ts : List Contribution) (ns : List ℕ) → entries_of e (part_of s t) ≡ Ok ns → good_parts (t ∷ ts) ≡ t ∷ good_parts ts
   unfolding good_parts
   good_cons t ts ns q = rw (good_parts, q)
 
-  good_none : (t : Contribution) (ts : List Contribution) (n : ℕ) → entries_of e (part_of s t) ≡ refuse n → good_parts (t ∷ ts) ≡ []
+  good_none : (t : Contribution) (ts : List Contribution) (n : ℕ) → entries_of e (part_of s t) ≡ Err n → good_parts (t ∷ ts) ≡ []
   unfolding good_parts
   good_none t ts n q = rw (good_parts, q)
 
-  end_cons : (t : Contribution) (ts : List Contribution) (ns : List ℕ) → entries_of e (part_of s t) ≡ pass ns → good_end e s (t ∷ ts) ≡ good_end e s ts
+  end_cons : (t : Contribution) (ts : List Contribution) (ns : List ℕ) → entries_of e (part_of s t) ≡ Ok ns → good_end e s (t ∷ ts) ≡ good_end e s ts
   unfolding good_end
   end_cons t ts ns q = rw (good_end, q)
 
-  end_here : (t : Contribution) (ts : List Contribution) (n : ℕ) → entries_of e (part_of s t) ≡ refuse n → good_end e s (t ∷ ts) ≡ t.offset
+  end_here : (t : Contribution) (ts : List Contribution) (n : ℕ) → entries_of e (part_of s t) ≡ Err n → good_end e s (t ∷ ts) ≡ t.offset
   unfolding good_end
   end_here t ts n q = rw (good_end, q)
 
   -- ---- what 8 and 9 answer
   pub record Judged (ts : List Contribution) : Type 0 where
     -- a string of a part before it is missing: 9
-    pub missing : (n : ℕ) → strings_of_all e str (map (part_of s) (good_parts ts)) ≡ refuse n → pieces_of e str s ts ≡ refuse n
+    pub missing : (n : ℕ) → strings_of_all e str (map (part_of s) (good_parts ts)) ≡ Err n → pieces_of e str s ts ≡ Err n
     -- none is: 8 where a part is ill formed, else all strings
-    pub ill : (used : List (List ℕ)) → strings_of_all e str (map (part_of s) (good_parts ts)) ≡ pass used → good_end e s ts < length s → pieces_of e str s ts ≡ refuse 8
-    pub all : (used : List (List ℕ)) → strings_of_all e str (map (part_of s) (good_parts ts)) ≡ pass used → good_end e s ts ≡ length s
-        → (ps : List Piece) × (pieces_of e str s ts ≡ pass ps) × (used_in ps ≡ used)
+    pub ill : (used : List (List ℕ)) → strings_of_all e str (map (part_of s) (good_parts ts)) ≡ Ok used → good_end e s ts < length s → pieces_of e str s ts ≡ Err 8
+    pub all : (used : List (List ℕ)) → strings_of_all e str (map (part_of s) (good_parts ts)) ≡ Ok used → good_end e s ts ≡ length s
+        → (ps : List Piece) × (pieces_of e str s ts ≡ Ok ps) × (used_in ps ≡ used)
 
   -- ---- one piece
-  piece_ill : (p : List ℕ) (n : ℕ) → entries_of e p ≡ refuse n → piece_of e str p ≡ refuse 8
+  piece_ill : (p : List ℕ) (n : ℕ) → entries_of e p ≡ Err n → piece_of e str p ≡ Err 8
   unfolding piece_of
-  piece_ill p n q = then_refuse _ _ 8 (q ∙ ap refuse (entries_refused e p n q))
+  piece_ill p n q = then_refuse _ _ 8 (q ∙ ap Err (entries_refused e p n q))
 
-  piece_missing : (p ns : List ℕ) (n : ℕ) → entries_of e p ≡ pass ns → strings_at str (entries_in e p) ≡ refuse n → piece_of e str p ≡ refuse n
+  piece_missing : (p ns : List ℕ) (n : ℕ) → entries_of e p ≡ Ok ns → strings_at str (entries_in e p) ≡ Err n → piece_of e str p ≡ Err n
   unfolding piece_of
   piece_missing p ns n q z =
       let is = (entries_whole e p ns q).1 in
       then_pass _ _ ns q ∙ then_refuse _ _ n (ap (strings_at str) is ∙ z)
 
-  piece_good : (p ns : List ℕ) (us : List (List ℕ)) → entries_of e p ≡ pass ns → strings_at str (entries_in e p) ≡ pass us → piece_of e str p ≡ pass (record { bytes = p; used = us })
+  piece_good : (p ns : List ℕ) (us : List (List ℕ)) → entries_of e p ≡ Ok ns → strings_at str (entries_in e p) ≡ Ok us → piece_of e str p ≡ Ok (record { bytes = p; used = us })
   unfolding piece_of
   piece_good p ns us q z = let is = (entries_whole e p ns q).1 in then_pass _ _ ns q ∙ then_pass _ _ us (ap (strings_at str) is ∙ z)
 
   -- ---- those of all parts
-  pieces_stop : (t : Contribution) (ts : List Contribution) (n : ℕ) → piece_of e str (part_of s t) ≡ refuse n → pieces_of e str s (t ∷ ts) ≡ refuse n
+  pieces_stop : (t : Contribution) (ts : List Contribution) (n : ℕ) → piece_of e str (part_of s t) ≡ Err n → pieces_of e str s (t ∷ ts) ≡ Err n
   unfolding pieces_of part_of
   pieces_stop t ts n q = then_refuse _ _ n q
 
-  pieces_later : (t : Contribution) (ts : List Contribution) (p : Piece) (n : ℕ) → piece_of e str (part_of s t) ≡ pass p → pieces_of e str s ts ≡ refuse n → pieces_of e str s (t ∷ ts) ≡ refuse n
+  pieces_later : (t : Contribution) (ts : List Contribution) (p : Piece) (n : ℕ) → piece_of e str (part_of s t) ≡ Ok p → pieces_of e str s ts ≡ Err n → pieces_of e str s (t ∷ ts) ≡ Err n
   unfolding pieces_of part_of
   pieces_later t ts p n q z = then_pass _ _ p q ∙ then_refuse _ _ n z
 
-  pieces_on : (t : Contribution) (ts : List Contribution) (p : Piece) (ps : List Piece) → piece_of e str (part_of s t) ≡ pass p → pieces_of e str s ts ≡ pass ps → pieces_of e str s (t ∷ ts) ≡ pass (p ∷ ps)
+  pieces_on : (t : Contribution) (ts : List Contribution) (p : Piece) (ps : List Piece) → piece_of e str (part_of s t) ≡ Ok p → pieces_of e str s ts ≡ Ok ps → pieces_of e str s (t ∷ ts) ≡ Ok (p ∷ ps)
   unfolding pieces_of part_of
   pieces_on t ts p ps q z = then_pass _ _ p q ∙ then_pass _ _ ps z
 
   -- a part that is ill formed
-  ill_here : (at : ℕ) (t : Contribution) (ts : List Contribution) (n : ℕ) → Tiling at (length s) (t ∷ ts) → entries_of e (part_of s t) ≡ refuse n → Judged (t ∷ ts)
+  ill_here : (at : ℕ) (t : Contribution) (ts : List Contribution) (n : ℕ) → Tiling at (length s) (t ∷ ts) → entries_of e (part_of s t) ≡ Err n → Judged (t ∷ ts)
   unfolding strings_of_all Tiling
   ill_here at t ts n r q =
       let none = good_none t ts n q in
@@ -90,10 +86,10 @@ module _ (e : Encoding) (str s : List ℕ) where
       }
 
   -- one whose string is missing
-  missing_here : (t : Contribution) (ts : List Contribution) (ns : List ℕ) (n : ℕ) → entries_of e (part_of s t) ≡ pass ns → strings_at str (entries_in e (part_of s t)) ≡ refuse n → Judged (t ∷ ts)
+  missing_here : (t : Contribution) (ts : List Contribution) (ns : List ℕ) (n : ℕ) → entries_of e (part_of s t) ≡ Ok ns → strings_at str (entries_in e (part_of s t)) ≡ Err n → Judged (t ∷ ts)
   unfolding strings_of_all
   missing_here t ts ns n q z =
-      let are : strings_of_all e str (map (part_of s) (good_parts (t ∷ ts))) ≡ refuse n = ap (λ (l : List Contribution). strings_of_all e str (map (part_of s) l)) (good_cons t ts ns q) ∙ then_refuse _ _ n z in
+      let are : strings_of_all e str (map (part_of s) (good_parts (t ∷ ts))) ≡ Err n = ap (λ (l : List Contribution). strings_of_all e str (map (part_of s) l)) (good_cons t ts ns q) ∙ then_refuse _ _ n z in
       record {
         missing = λ m y. (let k : n ≡ m = refuse_inj (sym are ∙ y) in rw (← k) (pieces_stop t ts n (piece_missing (part_of s t) ns n q z)));
         ill = λ used y l. absurd (pass_refuse used n (sym y ∙ are));
@@ -101,14 +97,14 @@ module _ (e : Encoding) (str s : List ℕ) where
       }
 
   -- one that passes
-  good_here : (t : Contribution) (ts : List Contribution) (ns : List ℕ) (us : List (List ℕ)) → entries_of e (part_of s t) ≡ pass ns → strings_at str (entries_in e (part_of s t)) ≡ pass us → Judged ts → Judged (t ∷ ts)
+  good_here : (t : Contribution) (ts : List Contribution) (ns : List ℕ) (us : List (List ℕ)) → entries_of e (part_of s t) ≡ Ok ns → strings_at str (entries_in e (part_of s t)) ≡ Ok us → Judged ts → Judged (t ∷ ts)
   unfolding strings_of_all used_in
   good_here t ts ns us q z j =
       let g = good_parts ts in
       let cons = good_cons t ts ns q in
       let p : Piece = record { bytes = part_of s t; used = us } in
       let own = piece_good (part_of s t) ns us q z in
-      let are : strings_of_all e str (map (part_of s) (good_parts (t ∷ ts))) ≡ (strings_of_all e str (map (part_of s) g) >>= λ vs. pass (us ++ vs)) =
+      let are : strings_of_all e str (map (part_of s) (good_parts (t ∷ ts))) ≡ (strings_of_all e str (map (part_of s) g) >>= λ vs. Ok (us ++ vs)) =
       ap (λ (l : List Contribution). strings_of_all e str (map (part_of s) l)) cons ∙ then_pass _ _ us z in
       record {
         missing = λ n y. ⊎_elim
@@ -131,13 +127,13 @@ module _ (e : Encoding) (str s : List ℕ) where
   }
   parts_judged at (t ∷ ts) r = go (entries_of e (part_of s t)) refl (parts_judged (at + t.size) ts r.2)
     where
-      on : (ns : List ℕ) → entries_of e (part_of s t) ≡ pass ns → (m : Check (List (List ℕ))) → strings_at str (entries_in e (part_of s t)) ≡ m → Judged ts → Judged (t ∷ ts)
-      on ns q (pass us) z rest = good_here t ts ns us q z rest
-      on ns q (refuse n) z rest = missing_here t ts ns n q z
+      on : (ns : List ℕ) → entries_of e (part_of s t) ≡ Ok ns → (m : Result (List (List ℕ)) ℕ) → strings_at str (entries_in e (part_of s t)) ≡ m → Judged ts → Judged (t ∷ ts)
+      on ns q (Ok us) z rest = good_here t ts ns us q z rest
+      on ns q (Err n) z rest = missing_here t ts ns n q z
 
-      go : (m : Check (List ℕ)) → entries_of e (part_of s t) ≡ m → Judged ts → Judged (t ∷ ts)
-      go (refuse n) q rest = ill_here at t ts n r q
-      go (pass ns) q rest = on ns q (strings_at str (entries_in e (part_of s t))) refl rest
+      go : (m : Result (List ℕ) ℕ) → entries_of e (part_of s t) ≡ m → Judged ts → Judged (t ∷ ts)
+      go (Err n) q rest = ill_here at t ts n r q
+      go (Ok ns) q rest = on ns q (strings_at str (entries_in e (part_of s t))) refl rest
 
   -- ---- where they end
   pub record Ending (at : ℕ) (ts : List Contribution) : Type 0 where
@@ -146,7 +142,7 @@ module _ (e : Encoding) (str s : List ℕ) where
     pub headed : Headed e (part s at (good_end e s ts - at)) (map (part_of s) (good_parts ts))
 
   module _ (five : e.version ≡ 5) where
-    ends_here : (at : ℕ) (t : Contribution) (ts : List Contribution) (n : ℕ) → Tiling at (length s) (t ∷ ts) → entries_of e (part_of s t) ≡ refuse n → Ending at (t ∷ ts)
+    ends_here : (at : ℕ) (t : Contribution) (ts : List Contribution) (n : ℕ) → Tiling at (length s) (t ∷ ts) → entries_of e (part_of s t) ≡ Err n → Ending at (t ∷ ts)
     unfolding Tiling Headed
     ends_here at t ts n r q =
         let none = good_none t ts n q in
@@ -159,7 +155,7 @@ module _ (e : Encoding) (str s : List ℕ) where
           headed = subst (λ (l : List Contribution). Headed e (part s at (good_end e s (t ∷ ts) - at)) (map (part_of s) l)) (sym none) (ap (part s at) z ∙ part_none s at);
         }
 
-    ends_on : (at : ℕ) (t : Contribution) (ts : List Contribution) (ns : List ℕ) → Tiling at (length s) (t ∷ ts) → entries_of e (part_of s t) ≡ pass ns → Ending (at + t.size) ts → Ending at (t ∷ ts)
+    ends_on : (at : ℕ) (t : Contribution) (ts : List Contribution) (ns : List ℕ) → Tiling at (length s) (t ∷ ts) → entries_of e (part_of s t) ≡ Ok ns → Ending (at + t.size) ts → Ending at (t ∷ ts)
     unfolding Tiling Headed part_of
     ends_on at t ts ns r q j =
         let g = good_end e s ts in
@@ -177,7 +173,7 @@ module _ (e : Encoding) (str s : List ℕ) where
           high = omega (arith, end, j.high);
           headed = subst (λ (l : List Contribution). Headed e (part s at (good_end e s (t ∷ ts) - at)) (map (part_of s) l)) (sym cons)
               (subst (λ (l : List ℕ). Headed e l (part_of s t ∷ map (part_of s) (good_parts ts))) (sym shape)
-              (rest, refl, omega (arith, long, r.1), whole_size e (part_of s t) rest five w.0.header, q ∙ ap pass w.1, j.headed));
+              (rest, refl, omega (arith, long, r.1), whole_size e (part_of s t) rest five w.0.header, q ∙ ap Ok w.1, j.headed));
         }
 
     pub parts_ending : (at : ℕ) (ts : List Contribution) → Tiling at (length s) ts → Ending at ts
@@ -191,6 +187,6 @@ module _ (e : Encoding) (str s : List ℕ) where
         }
     parts_ending at (t ∷ ts) r = go (entries_of e (part_of s t)) refl (parts_ending (at + t.size) ts r.2)
       where
-        go : (m : Check (List ℕ)) → entries_of e (part_of s t) ≡ m → Ending (at + t.size) ts → Ending at (t ∷ ts)
-        go (refuse n) q rest = ends_here at t ts n r q
-        go (pass ns) q rest = ends_on at t ts ns r q rest
+        go : (m : Result (List ℕ) ℕ) → entries_of e (part_of s t) ≡ m → Ending (at + t.size) ts → Ending at (t ∷ ts)
+        go (Err n) q rest = ends_here at t ts n r q
+        go (Ok ns) q rest = ends_on at t ts ns r q rest

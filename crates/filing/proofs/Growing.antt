@@ -1,11 +1,6 @@
 -- What reading an object requires: its sections lie in the bundle, and the table has room for its strings.
-use mathlib.Core.Path.{◌≡◌}
-use mathlib.Core.Bool.{Bool}
-use mathlib.Core.List.{List}
-use Prim.Native.Nat.{ℕ}
-use native.Mathlib.Omega.{arith}
-use lib.ListN.{length}
-use Rattle.octets.specs.Checked.{pass}
+use Rattle.std.proofs.Common.{◌≡◌, Bool, List, ℕ, arith, length}
+use Rattle.std.specs.Prelude.{Ok}
 use Rattle.bundle.specs.Bundle.{Item, leading}
 use Rattle.bundle.proofs.Passed.{here}
 use Rattle.bundle.proofs.Offsets.{offsets_behind}
@@ -20,7 +15,7 @@ use Rattle.filing.specs.ByObject.{AtObject, InputRoom}
 
 -- of the object whose sections start at from: some of the str_offsets that lie ahead is its own
 pub input_room : (b : List ℕ) (big : Bool) (first from : ℕ) (w : List ℕ) (st : InProgress) (bases : BySection ℕ) (is : List Input) (us : List Filed)
-    → AtObject b big first from w st bases is us → (ahead : List Item) → here b from ≡ pass ahead → Every (Lies b) (leading ahead) → InputRoom b (leading ahead) (length w) st.strings
+    → AtObject b big first from w st bases is us → (ahead : List Item) → here b from ≡ Ok ahead → Every (Lies b) (leading ahead) → InputRoom b (leading ahead) (length w) st.strings
 input_room b big first from w st bases is us a ahead left lie =
     record {
       room = a.held.room;

@@ -1,17 +1,9 @@
 -- The answers of opening an object, each from those of its checks.
-use mathlib.Core.Path.{◌≡◌, refl, sym, ap₂, ◌∙◌, subst}
-use mathlib.Core.Logic.{⊎_elim}
-use mathlib.Core.Bool.{Bool}
-use mathlib.Core.List.{List, ◌++◌}
-use mathlib.Core.Option.{Option}
-use Prim.Native.Nat.{ℕ, ◌<◌}
-use native.Mathlib.Omega.{arith}
-use lib.Dec.{leb}
-use lib.ListN.{get_or}
-use Rattle.std.specs.Prelude.{Result, Ok, Err}
+use Rattle.std.proofs.Common.{◌≡◌, refl, sym, ap₂, ◌∙◌, subst, ⊎_elim, Bool, List, ◌++◌, ℕ, ◌<◌, arith, leb, get_or}
+use Rattle.std.specs.Prelude.{Option, Result, Ok, Err}
 use Rattle.numbers.specs.Refused.{number_of}
 use Rattle.numbers.specs.declared.refusals.Refusal.{Refusal}
-use Rattle.octets.specs.Checked.{Check, pass, ◌>>=◌}
+use Rattle.octets.specs.Checked.{◌>>=◌}
 use Rattle.octets.proofs.Checks.{bind_pass, bind_refuse, pass_inj, pass_refuse}
 use Rattle.bundle.specs.Bundle.{Part, Object, body}
 use Rattle.bundle.specs.Encoding.{Encoding}
@@ -34,14 +26,14 @@ use Rattle.filing.proofs.Inputting.{input_checks, indexes, whole_steps, index_is
 use Rattle.filing.proofs.InputLaws.{strings_same, index_same, input_is}
 
 -- ---- the strings of pieces
-pub pieces_put : (b v : List ℕ) (ts : List (List ℕ)) (many : ℕ) (next : StringTable) (m : Check (List Piece)) (r : Result (Unit {0}) Refusal) → StringsAre b v ts many next (m >>= λ q. pass (used_in q)) r
+pub pieces_put : (b v : List ℕ) (ts : List (List ℕ)) (many : ℕ) (next : StringTable) (m : Result (List Piece) ℕ) (r : Result (Unit {0}) Refusal) → StringsAre b v ts many next (m >>= λ q. Ok (used_in q)) r
     → Tells (λ (u : Unit {0}) q. StringsPut b v many next (ts ++ used_in q)) m r
 pieces_put b v ts many next m r t = record {
   passes = λ a e.
       let p = t.passes a e in
-      let q = bind_pass m (λ z. pass (used_in z)) p.0 p.1 in
+      let q = bind_pass m (λ z. Ok (used_in z)) p.0 p.1 in
       (q.0, q.1, subst (λ (l : List (List ℕ)). StringsPut b v many next (ts ++ l)) (sym (pass_inj q.2)) p.2);
-  refuses = λ e z. ⊎_elim (λ h. h) (λ h. absurd (pass_refuse _ _ h.2)) (bind_refuse m (λ y. pass (used_in y)) (number_of e) (t.refuses e z));
+  refuses = λ e z. ⊎_elim (λ h. h) (λ h. absurd (pass_refuse _ _ h.2)) (bind_refuse m (λ y. Ok (used_in y)) (number_of e) (t.refuses e z));
 }
 
 -- ---- an object by what is opened
@@ -52,12 +44,12 @@ module _ (b v : List ℕ) (ts : List (List ℕ)) (many : ℕ) (next : StringTabl
   pub read_refused : (r : Refusal) → JudgedIs (object_check big first word ps) (Err r) → InputRead b v ts many next (input_of b big first object) (Err r)
   read_refused r j = tells_same (sym (input_checks b big first object)) (tells_first _ r j)
 
-  pub read_opened : (x : ObjectEncoding) → JudgedIs (object_check big first word ps) (Ok x) → (r : Result InputObject Refusal) (m : Check Opened) → opened (encoding_is x) ps (body b ps) ≡ m
+  pub read_opened : (x : ObjectEncoding) → JudgedIs (object_check big first word ps) (Ok x) → (r : Result InputObject Refusal) (m : Result Opened ℕ) → opened (encoding_is x) ps (body b ps) ≡ m
       → InputRead b v ts many next (input_given b (encoding_is x) ps m) r → InputRead b v ts many next (input_of b big first object) r
   read_opened x j r m q k =
       tells_same (sym (input_checks b big first object))
       (tells_then _ x r j (λ e _ h. subst (λ (y : Encoding). InputRead b v ts many next (input_given b y ps (opened y ps (body b ps))) r) h
-      (subst (λ (n : Check Opened). InputRead b v ts many next (input_given b (encoding_is x) ps n) r) (sym q) k)))
+      (subst (λ (n : Result Opened ℕ). InputRead b v ts many next (input_given b (encoding_is x) ps n) r) (sym q) k)))
 
 module _ (b v : List ℕ) (ts : List (List ℕ)) (many : ℕ) (next : StringTable) (x : ObjectEncoding) (scan : Scan) (at : ℕ) (ps : List Part) (is : scan ≡ scan_of at ps) where
   abbrev e : Encoding
@@ -67,7 +59,7 @@ module _ (b v : List ℕ) (ts : List (List ℕ)) (many : ℕ) (next : StringTabl
   abbrev pub Opens : InputObject → Opened → Type 0
   Opens y t = IndexedObject b x scan y (t.cu_index, t.tu_index) × StringsPut b v many next (ts ++ used_in t.pieces)
 
-  pub opens_given : (words : ℕ) (tab : StringTable) → InputRoom b ps words tab → (m : Check Opened) (r : Result InputObject Refusal) → Tells Opens m r → InputRead b v ts many next (input_given b e ps m) r
+  pub opens_given : (words : ℕ) (tab : StringTable) → InputRoom b ps words tab → (m : Result Opened ℕ) (r : Result InputObject Refusal) → Tells Opens m r → InputRead b v ts many next (input_given b e ps m) r
   unfolding input_given
   opens_given words tab room m r t = tells_made _ (λ y o h. (input_is b scan at ps is words tab room x y o.cu_index o.tu_index h.0 _ refl, h.1)) t
 
@@ -76,7 +68,7 @@ module _ (b v : List ℕ) (ts : List (List ℕ)) (many : ℕ) (next : StringTabl
   here_same c h = index_same b scan at ps is x c h ∙ index_is e ps (body b ps) c
 
   pub indexes_same : scanned_indexes x b scan ≡ indexes e ps (body b ps)
-  indexes_same = ap₂ (λ (m w : Check (Option Index)). m >>= λ c. (w >>= λ t. pass (c, t))) (here_same 12 (omega arith)) (here_same 13 (omega arith))
+  indexes_same = ap₂ (λ (m w : Result (Option Index) ℕ). m >>= λ c. (w >>= λ t. Ok (c, t))) (here_same 12 (omega arith)) (here_same 13 (omega arith))
 
   -- ---- 8, 9, 10
   module _ (put : Result (Unit {0}) Refusal) (o : StrOffsets) (eo : o ≡ str_offsets_in x scan)

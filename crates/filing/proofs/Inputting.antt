@@ -1,11 +1,7 @@
 -- The checks of one object, in the order of `input_of`: 4 to 7, then what is opened, in either order.
-use mathlib.Core.Path.{◌≡◌, refl, sym, ap}
-use mathlib.Core.Bool.{Bool, true, false}
-use mathlib.Core.List.{List, [], ◌∷◌, append-nil}
-use mathlib.Core.Option.{Option}
-use Prim.Native.Nat.{ℕ}
-use lib.Dec.{eqb}
-use Rattle.octets.specs.Checked.{Check, pass, refuse, ◌>>=◌, require}
+use Rattle.std.proofs.Common.{◌≡◌, refl, sym, ap, Bool, true, false, List, [], ◌∷◌, append-nil, ℕ, eqb}
+use Rattle.std.specs.Prelude.{Option, Result, Ok, Err}
+use Rattle.octets.specs.Checked.{◌>>=◌, require}
 use Rattle.octets.proofs.Checks.{then_pass}
 use Rattle.bundle.specs.Bundle.{Part, Object, body}
 use Rattle.bundle.specs.Encoding.{Encoding, encoding_of, encoding_good}
@@ -17,8 +13,8 @@ use Rattle.package.specs.Input.{present, edition_good, complete, form_of, input_
 use Rattle.filing.specs.Judged.{object_check, index_check}
 use Rattle.filing.specs.ByObject.{strings_check, input_given}
 
-four_tests : {A B : Type 0} (s t u v : Bool) (a : A) (f : A → Check B)
-    → ((require s 4 >>= λ _. (require t 5 >>= λ _. (require u 6 >>= λ _. (require v 7 >>= λ _. pass a)))) >>= f) ≡ (require s 4 >>= λ _. (require t 5 >>= λ _. (require u 6 >>= λ _. (require v 7 >>= λ _. f a))))
+four_tests : {A B : Type 0} (s t u v : Bool) (a : A) (f : A → Result B ℕ)
+    → ((require s 4 >>= λ _. (require t 5 >>= λ _. (require u 6 >>= λ _. (require v 7 >>= λ _. Ok a)))) >>= f) ≡ (require s 4 >>= λ _. (require t 5 >>= λ _. (require u 6 >>= λ _. (require v 7 >>= λ _. f a))))
 unfolding require ◌>>=◌
 four_tests false t u v a f = refl
 four_tests true false u v a f = refl
@@ -32,11 +28,11 @@ unfolding input_of object_check input_given
 input_checks b big first o = sym (four_tests (encoding_good (encoding_of big o.word)) (eqb o.word first) (edition_good (encoding_of big o.word) o.parts) (complete o.parts) (encoding_of big o.word) _)
 
 -- ---- either order
-two_steps : {A B C : Type 0} (m : Check A) (w : Check B) (f : A × B → Check C) → ((m >>= λ a. (w >>= λ b. pass (a, b))) >>= f) ≡ (m >>= λ a. (w >>= λ b. f (a, b)))
+two_steps : {A B C : Type 0} (m : Result A ℕ) (w : Result B ℕ) (f : A × B → Result C ℕ) → ((m >>= λ a. (w >>= λ b. Ok (a, b))) >>= f) ≡ (m >>= λ a. (w >>= λ b. f (a, b)))
 unfolding ◌>>=◌
-two_steps (pass a) (pass b) f = refl
-two_steps (pass a) (refuse n) f = refl
-two_steps (refuse n) w f = refl
+two_steps (Ok a) (Ok b) f = refl
+two_steps (Ok a) (Err n) f = refl
+two_steps (Err n) w f = refl
 
 module _ (e : Encoding) (ps : List Part) (bytes : BySection (List ℕ)) where
   pub packed_tiled : is_packed e ps ≡ true → opened e ps bytes ≡ opened_tiled e ps bytes
@@ -48,18 +44,18 @@ module _ (e : Encoding) (ps : List Part) (bytes : BySection (List ℕ)) where
   packed_whole z = rw (opened, z)
 
   -- both indexes, the first refusal first
-  abbrev pub indexes : Check (Option Index × Option Index)
-  indexes = input_index e ps bytes 12 >>= λ cu. (input_index e ps bytes 13 >>= λ tu. pass (cu, tu))
+  abbrev pub indexes : Result (Option Index × Option Index) ℕ
+  indexes = input_index e ps bytes 12 >>= λ cu. (input_index e ps bytes 13 >>= λ tu. Ok (cu, tu))
 
   -- 8, 9, 10
-  pub whole_steps : opened_whole e ps bytes ≡ (whole_pieces e ps bytes >>= λ q. (indexes >>= λ p. pass (record { pieces = q; cu_index = p.0; tu_index = p.1 })))
+  pub whole_steps : opened_whole e ps bytes ≡ (whole_pieces e ps bytes >>= λ q. (indexes >>= λ p. Ok (record { pieces = q; cu_index = p.0; tu_index = p.1 })))
   unfolding opened_whole
-  whole_steps = ap (λ (f : List Piece → Check Opened). whole_pieces e ps bytes >>= f) (λ i q. sym (two_steps (input_index e ps bytes 12) (input_index e ps bytes 13) (λ p. pass (record { pieces = q; cu_index = p.0; tu_index = p.1 }))) i)
+  whole_steps = ap (λ (f : List Piece → Result Opened ℕ). whole_pieces e ps bytes >>= f) (λ i q. sym (two_steps (input_index e ps bytes 12) (input_index e ps bytes 13) (λ p. Ok (record { pieces = q; cu_index = p.0; tu_index = p.1 }))) i)
 
   -- 10, 34, 8, 9
-  pub tiled_steps : opened_tiled e ps bytes ≡ (indexes >>= λ p. (tiled_pieces e bytes p.0 p.1 >>= λ q. pass (record { pieces = q; cu_index = p.0; tu_index = p.1 })))
+  pub tiled_steps : opened_tiled e ps bytes ≡ (indexes >>= λ p. (tiled_pieces e bytes p.0 p.1 >>= λ q. Ok (record { pieces = q; cu_index = p.0; tu_index = p.1 })))
   unfolding opened_tiled
-  tiled_steps = sym (two_steps (input_index e ps bytes 12) (input_index e ps bytes 13) (λ p. tiled_pieces e bytes p.0 p.1 >>= λ q. pass (record { pieces = q; cu_index = p.0; tu_index = p.1 })))
+  tiled_steps = sym (two_steps (input_index e ps bytes 12) (input_index e ps bytes 13) (λ p. tiled_pieces e bytes p.0 p.1 >>= λ q. Ok (record { pieces = q; cu_index = p.0; tu_index = p.1 })))
 
   -- 10, as code judges it
   pub index_is : (c : ℕ) → index_check e.big (form_of e) (present ps c) (bytes c) ≡ input_index e ps bytes c
@@ -71,20 +67,20 @@ module _ (e : Encoding) (str s : List ℕ) where
   abbrev made : List (List ℕ) → Piece
   made us = record { bytes = s; used = us }
 
-  used_last : (k : Check (List (List ℕ))) → (((k >>= λ us. pass (made us)) >>= λ p. pass (p ∷ [])) >>= λ ps. pass (used_in ps)) ≡ k
+  used_last : (k : Result (List (List ℕ)) ℕ) → (((k >>= λ us. Ok (made us)) >>= λ p. Ok (p ∷ [])) >>= λ ps. Ok (used_in ps)) ≡ k
   unfolding ◌>>=◌ used_in
-  used_last (pass us) = ap pass (append-nil us)
-  used_last (refuse n) = refl
+  used_last (Ok us) = ap Ok (append-nil us)
+  used_last (Err n) = refl
 
-  used_one : (k : Check (List ℕ)) → (((k >>= λ os. (strings_at str os >>= λ us. pass (made us))) >>= λ p. pass (p ∷ [])) >>= λ ps. pass (used_in ps)) ≡ (k >>= strings_at str)
+  used_one : (k : Result (List ℕ) ℕ) → (((k >>= λ os. (strings_at str os >>= λ us. Ok (made us))) >>= λ p. Ok (p ∷ [])) >>= λ ps. Ok (used_in ps)) ≡ (k >>= strings_at str)
   unfolding ◌>>=◌
-  used_one (pass os) = used_last (strings_at str os)
-  used_one (refuse n) = refl
+  used_one (Ok os) = used_last (strings_at str os)
+  used_one (Err n) = refl
 
-pub whole_used : (e : Encoding) (ps : List Part) (bytes : BySection (List ℕ)) → (whole_pieces e ps bytes >>= λ q. pass (used_in q)) ≡ strings_check e (present ps 6) (bytes 6) (bytes 11)
+pub whole_used : (e : Encoding) (ps : List Part) (bytes : BySection (List ℕ)) → (whole_pieces e ps bytes >>= λ q. Ok (used_in q)) ≡ strings_check e (present ps 6) (bytes 6) (bytes 11)
 unfolding whole_pieces strings_check piece_of used_in
 whole_used e ps bytes = go (present ps 6) refl
   where
-    go : (t : Bool) → present ps 6 ≡ t → (whole_pieces e ps bytes >>= λ q. pass (used_in q)) ≡ strings_check e (present ps 6) (bytes 6) (bytes 11)
+    go : (t : Bool) → present ps 6 ≡ t → (whole_pieces e ps bytes >>= λ q. Ok (used_in q)) ≡ strings_check e (present ps 6) (bytes 6) (bytes 11)
     go true z = rw (whole_pieces, strings_check, z) (used_one e (bytes 11) (bytes 6) (entries_of e (bytes 6)))
     go false z = rw (whole_pieces, strings_check, z) (then_pass _ _ [] refl)

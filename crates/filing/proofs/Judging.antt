@@ -1,17 +1,10 @@
 -- 4 to 7 and 10 as code judges them: each case.
-use mathlib.Core.Path.{◌≡◌, refl, sym, ap, ◌∙◌}
-use mathlib.Core.Bool.{Bool, true, false}
-use mathlib.Core.List.{List}
-use mathlib.Core.Option.{some, none}
+use Rattle.std.proofs.Common.{◌≡◌, refl, sym, ap, ◌∙◌, Bool, true, false, List, ℕ, eqb, leb, arith, eq-eqb, ne_eqb, le-leb}
 use Rattle.std.specs.Prelude.{Some, None, Ok, Err}
 use Rattle.numbers.specs.declared.refusals.Refusal.TheVariants.{OtherEncoding, WrongEdition, SectionMissing, BadIndex}
-use Prim.Native.Nat.{ℕ}
-use lib.Dec.{eqb, leb}
-use native.Mathlib.Omega.{arith}
-use borrow.Author.Tests.{eq-eqb, ne_eqb, le-leb}
 use Rattle.numbers.specs.Refused.{number_of, told}
 use Rattle.numbers.specs.declared.refusals.Refusal.{Refusal}
-use Rattle.octets.specs.Checked.{pass, refuse, ◌>>=◌, mapped}
+use Rattle.octets.specs.Checked.{◌>>=◌, mapped}
 use Rattle.octets.proofs.Checks.{fails, passes}
 use Rattle.bundle.specs.Bundle.{Part, count}
 use Rattle.bundle.specs.Scan.{by_code, scan_of}
@@ -36,7 +29,7 @@ use Rattle.filing.proofs.Telling.{tells_pass, tells_refuse}
 module _ (big : Bool) (first word : ℕ) (ps : List Part) where
   pub judged_word : (r : Refusal) → mapped encoding_is (told (Err r)) ≡ encoding_checked (encoding_of big word) → JudgedIs (object_check big first word ps) (Err r)
   unfolding object_check
-  judged_word r h = let z = word_bad _ r h in tells_refuse r (rw (object_check, fails (encoding_good (encoding_of big word)) 4 _ z.0) (ap refuse (sym z.1)))
+  judged_word r h = let z = word_bad _ r h in tells_refuse r (rw (object_check, fails (encoding_good (encoding_of big word)) 4 _ z.0) (ap Err (sym z.1)))
 
   module _ (x : ObjectEncoding) (h : mapped encoding_is (told (Ok x)) ≡ encoding_checked (encoding_of big word)) where
     pub judged_first : (word ≡ first → ⊥) → JudgedIs (object_check big first word ps) (Err OtherEncoding)
@@ -89,22 +82,22 @@ form_four x h = let f : eqb (encoding_is x).version 5 ≡ false = is_four x h in
 module _ (big : Bool) (form : ℕ) (s : List ℕ) (count : ℕ) where
   pub index_none : count ≡ 0 → JudgedIndexIs big s (index_check big form (leb 1 count) s) (Ok None)
   unfolding index_check IndexedIs
-  index_none e = tells_pass None none (rw (index_check, e)) tt
+  index_none e = tells_pass None None (rw (index_check, e)) tt
 
   module _ (some-there : count ≡ 0 → ⊥) where
     there : leb 1 count ≡ true
     there = le-leb 1 count (omega arith)
 
-    pub index_bad : (r : Refusal) → refuse (number_of r) ≡ index_of big s → JudgedIndexIs big s (index_check big form (leb 1 count) s) (Err r)
+    pub index_bad : (r : Refusal) → Err (number_of r) ≡ index_of big s → JudgedIndexIs big s (index_check big form (leb 1 count) s) (Err r)
     unfolding index_check ◌>>=◌
     index_bad r h = tells_refuse r (rw (index_check, there, ← h))
 
-    module _ (head : IndexHead) (version : ℕ) (is : version ≡ form) (i : Index) (of : head ≡ head_of i) (h : pass i ≡ index_of big s) where
+    module _ (head : IndexHead) (version : ℕ) (is : version ≡ form) (i : Index) (of : head ≡ head_of i) (h : Ok i ≡ index_of big s) where
       well_read : ReadWell big s head
       unfolding mapped
-      well_read = record { is = ap (mapped head_of) (sym h) ∙ ap pass (sym of) }
+      well_read = record { is = ap (mapped head_of) (sym h) ∙ ap Ok (sym of) }
 
-      index_there : index_of big s ≡ pass (index_in big s head)
+      index_there : index_of big s ≡ Ok (index_in big s head)
       index_there = read_is big s head well_read
 
       pub index_other : (head.version ≡ version → ⊥) → JudgedIndexIs big s (index_check big form (leb 1 count) s) (Err BadIndex)
@@ -112,13 +105,13 @@ module _ (big : Bool) (form : ℕ) (s : List ℕ) (count : ℕ) where
       index_other v =
           tells_refuse BadIndex
           (rw (index_check, there, index_there)
-          (fails (eqb head.version form) 10 (λ _. pass (some (index_in big s head))) (ne_eqb _ _ (λ z. v (z ∙ sym is)))))
+          (fails (eqb head.version form) 10 (λ _. Ok (Some (index_in big s head))) (ne_eqb _ _ (λ z. v (z ∙ sym is)))))
 
       pub index_good_law : head.version ≡ version → JudgedIndexIs big s (index_check big form (leb 1 count) s) (Ok (Some head))
       unfolding index_check IndexedIs index_in layout ◌>>=◌
       index_good_law v =
-          tells_pass (Some head) (some (index_in big s head))
-          (rw (index_check, there, index_there) (passes (eqb head.version form) 10 (λ _. pass (some (index_in big s head))) (eq-eqb _ _ (v ∙ is))))
+          tells_pass (Some head) (Some (index_in big s head))
+          (rw (index_check, there, index_there) (passes (eqb head.version form) 10 (λ _. Ok (Some (index_in big s head))) (eq-eqb _ _ (v ∙ is))))
           (well_read, refl)
 
 pub ruleset index_judged = (index_none, index_bad, index_other, index_good_law)

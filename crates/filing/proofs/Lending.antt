@@ -1,8 +1,5 @@
 -- A region of work is lent: what is filed is filed still.
-use mathlib.Core.Path.{◌≡◌, sym, subst}
-use mathlib.Core.Bool.{Bool}
-use mathlib.Core.List.{List}
-use Prim.Native.Nat.{ℕ, ◌≤◌}
+use Rattle.std.proofs.Common.{◌≡◌, sym, subst, Bool, List, ℕ, ◌≤◌}
 use Rattle.strings.specs.declared.table.StringTable.{StringTable}
 use Rattle.index.specs.Rows.{BySection}
 use Rattle.kept.specs.Regions.{Layout, records_region, slots_region, region, Apart, Only}

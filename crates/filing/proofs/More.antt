@@ -1,12 +1,5 @@
 -- Kept units and rows with one unit more.
-use mathlib.Core.Path.{◌≡◌, refl, ap, ◌∙◌}
-use mathlib.Core.Bool.{Bool, true, false}
-use mathlib.Core.Logic.{⊎_elim}
-use mathlib.Core.List.{List, [], ◌∷◌, ◌++◌, map}
-use Prim.Native.Nat.{ℕ, suc, ◌≤◌}
-use native.Mathlib.Omega.{arith}
-use lib.Dec.{eqb}
-use lib.ListN.{length}
+use Rattle.std.proofs.Common.{◌≡◌, refl, ap, ◌∙◌, Bool, true, false, ⊎_elim, List, [], ◌∷◌, ◌++◌, map, ℕ, suc, ◌≤◌, arith, eqb, length}
 use Rattle.octets.specs.Lists.{any, those, has, distinct}
 use Rattle.octets.proofs.Checks.{known}
 use Rattle.octets.proofs.Lists.{those_keeps, those_skips}
@@ -29,7 +22,6 @@ kept_known us u e = kept_snoc us u ∙ keep_known (kept us) u (any_kept u.table 
 
 -- ---- how many
 those_le : {A : Type 0} (f : A → Bool) (xs : List A) → length (those f xs) ≤ length xs
-unfolding those
 those_le f [] = omega arith
 those_le f (x ∷ xs) = ⊎_elim
     (λ h. omega (arith, ap length (those_keeps f x xs h), those_le f xs))

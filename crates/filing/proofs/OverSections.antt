@@ -1,19 +1,9 @@
 -- The walk over the sections of units of one object: what the loop keeps, for every input and every list of units filed before.
-use mathlib.Core.Path.{◌≡◌, refl, sym, ap, ◌∙◌, subst}
-use mathlib.Core.Logic.{◌⊎◌, inl, inr}
-use mathlib.Core.Bool.{Bool}
-use mathlib.Core.List.{List, [], ◌∷◌, map}
-use mathlib.Core.Option.{some, none}
-use Prim.Native.Nat.{ℕ, suc, ◌+◌, ◌-◌, ◌<◌, ◌≤◌}
-use native.Mathlib.Omega.{arith}
-use borrow.Author.Tests.{eqb-true}
-use lib.Dec.{eqb}
-use lib.ListN.{length, drop}
+use Rattle.std.proofs.Common.{◌≡◌, refl, sym, ap, ◌∙◌, subst, ◌⊎◌, inl, inr, Bool, List, [], ◌∷◌, map, ℕ, suc, ◌+◌, ◌-◌, ◌<◌, ◌≤◌, arith, eqb-true, eqb, length, drop}
+use Rattle.std.specs.Prelude.{Result, Ok, Err, Some, None}
 use Rattle.octets.specs.Octets.{part}
-use Rattle.std.specs.Prelude.{Result, Ok, Err}
 use Rattle.numbers.specs.Refused.{number_of}
 use Rattle.numbers.specs.declared.refusals.Refusal.{Refusal}
-use Rattle.octets.specs.Checked.{Check, pass}
 use Rattle.octets.proofs.Checks.{or_cases}
 use Rattle.bundle.specs.Bundle.{Part, Item, items, leading}
 use Rattle.bundle.specs.Scan.{Reaches, sections_of, place_behind, holds_units, unit_parts, unit_section_of}
@@ -70,9 +60,9 @@ sections_map : (b : List ℕ) (ps : List Part) → unit_sections b ps ≡ map (s
 unfolding unit_sections unit_parts holds_units
 sections_map b ps = refl
 
-all_from_law : (b : List ℕ) (at : ℕ) (ahead : List Item) → here b at ≡ pass ahead → all_from b at ≡ leading ahead
+all_from_law : (b : List ℕ) (at : ℕ) (ahead : List Item) → here b at ≡ Ok ahead → all_from b at ≡ leading ahead
 unfolding here sections_of
-all_from_law b at ahead e = ap (λ (c : Check (List Item)). sections_of c) e
+all_from_law b at ahead e = ap (λ (c : Result (List Item) ℕ). sections_of c) e
 
 -- for one input and one list of units filed before: the units filed since, and that the rest of the walk is still to come
 pub record On (b : List ℕ) (x : InputObject) (from at : ℕ) (w₀ w : List ℕ) (st₀ st : InProgress) (i : Input) (bases : BySection ℕ) (earlier here₀ : List Filed) : Type 0 where
@@ -85,7 +75,7 @@ pub record On (b : List ℕ) (x : InputObject) (from at : ℕ) (w₀ w : List �
 pub record Sectioned (b : List ℕ) (x : InputObject) (from at : ℕ) (w₀ w : List ℕ) (st₀ st : InProgress) : Type 0 where
   pub same : length w ≡ length w₀
   pub ahead : List Item
-  pub left : here b at ≡ pass ahead
+  pub left : here b at ≡ Ok ahead
   pub within : at ≤ length b
   pub behind : place_behind at (all_from b at) ≡ place_behind from (all_from b from)
   pub goes : (i : Input) (bases : BySection ℕ) (earlier here : List Filed) → AtUnit b x i from w₀ st₀ bases earlier here → On b x from at w₀ w st₀ st i bases earlier here
@@ -110,7 +100,7 @@ module _ {b : List ℕ} {x : InputObject} {from at : ℕ} {w₀ w : List ℕ} {s
   sections_reach = units_reach b at [] _ left_here
 
   -- at the end of the object
-  pub sectioned_end : none ≡ unit_section_of (all_from b at) → (i : Input) (bases : BySection ℕ) (earlier here : List Filed) → AtUnit b x i from w₀ st₀ bases earlier here
+  pub sectioned_end : None ≡ unit_section_of (all_from b at) → (i : Input) (bases : BySection ℕ) (earlier here : List Filed) → AtUnit b x i from w₀ st₀ bases earlier here
       → UnitsAre b x i (place_behind from (all_from b from)) w₀ w st₀ st bases earlier (units_in i bases earlier here (unit_sections b (all_from b from))) (Ok tt)
   sectioned_end e i bases earlier here a =
       let o = k.goes i bases earlier here a in
@@ -121,7 +111,7 @@ module _ {b : List ℕ} {x : InputObject} {from at : ℕ} {w₀ w : List ℕ} {s
       (record { at_unit = at_later at _ o.at_unit (rw (← k.behind) g.further) (rw (← k.behind) g.within); strings = o.kept })
 
   -- one section more
-  module _ (y : UnitsSection) (e : some y ≡ unit_section_of (all_from b at)) where
+  module _ (y : UnitsSection) (e : Some y ≡ unit_section_of (all_from b at)) where
     found : UnitsHere b at k.ahead y
     found = units_here b at [] _ left_here y e
 

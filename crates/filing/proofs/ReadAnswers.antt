@@ -1,14 +1,10 @@
 -- The answer of a unit that is read, towards the definition.
-use mathlib.Core.Path.{◌≡◌, sym, ap, ◌∙◌}
-use mathlib.Core.List.{List}
-use Prim.Native.Nat.{ℕ, ◌+◌, ◌-◌, ◌<◌, ◌≤◌}
-use native.Mathlib.Omega.{arith}
-use lib.ListN.{length, take, drop}
+use Rattle.std.proofs.Common.{◌≡◌, sym, ap, ◌∙◌, List, ℕ, ◌+◌, ◌-◌, ◌<◌, ◌≤◌, arith, length, take, drop}
 use Rattle.octets.specs.Octets.{part}
 use Rattle.std.specs.Prelude.{Ok, Err}
 use Rattle.numbers.specs.Refused.{number_of, told}
 use Rattle.numbers.specs.declared.refusals.Refusal.{Refusal}
-use Rattle.octets.specs.Checked.{pass, mapped}
+use Rattle.octets.specs.Checked.{mapped}
 use Rattle.octets.proofs.Numbers.{Bytes, bytes_take, bytes_drop}
 use Rattle.octets.proofs.Parts.{length_part, part_front, part_part}
 use Rattle.bundle.specs.Encoding.{Encoding}
@@ -48,7 +44,7 @@ module _ (b : List ℕ) (x : InputObject) (i : Input) (is : InputIs b x i) (home
     abbrev read : UnitRead
     read = unit_is u
 
-    passed : unit_by i.encoding home (abbreviations_for i home from) s ≡ pass read
+    passed : unit_by i.encoding home (abbreviations_for i home from) s ≡ Ok read
     unfolding mapped
     passed = sym t
 

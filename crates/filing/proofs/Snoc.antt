@@ -1,7 +1,5 @@
 -- The strings of one object more.
-use mathlib.Core.Path.{◌≡◌, sym, ap, ◌∙◌}
-use mathlib.Core.List.{List, [], ◌∷◌, ◌++◌, append-nil, append_assoc}
-use Prim.Native.Nat.{ℕ}
+use Rattle.std.proofs.Common.{◌≡◌, sym, ap, ◌∙◌, List, [], ◌∷◌, ◌++◌, append-nil, append_assoc, ℕ}
 use Rattle.kept.proofs.RegionStores.{table_same}
 use Rattle.filing.specs.ByObject.{StringsIn}
 use Rattle.package.specs.Pieces.{used_in}

@@ -1,13 +1,5 @@
 -- The strings of an object put: the answers by the definition.
-use mathlib.Core.Path.{◌≡◌, refl, ◌∙◌}
-use mathlib.Core.Bool.{Bool, true}
-use mathlib.Core.List.{List, [], append-nil}
-use Prim.Native.Nat.{ℕ, ◌*◌, ◌≤◌}
-use native.Mathlib.Omega.{arith}
-use lib.Dec.{leb}
-use lib.ListN.{length}
-use borrow.Author.Tests.{le-leb}
-use Rattle.octets.specs.Checked.{pass, refuse}
+use Rattle.std.proofs.Common.{◌≡◌, refl, ◌∙◌, Bool, true, List, [], append-nil, ℕ, ◌*◌, ◌≤◌, arith, leb, length, le-leb}
 use Rattle.octets.proofs.Checks.{then_pass, then_refuse}
 use Rattle.bundle.specs.Encoding.{Encoding}
 use Rattle.strings.specs.Strings.{entries_in, entries_of, strings_at}
@@ -43,7 +35,7 @@ strings_addable table memory p few l m = record {
   small = omega (arith, p.limit, p.whole, few, l);
 }
 
-module _ (e : Encoding) (there : Bool) (o s : List ℕ) (yes-there : there ≡ true) (counted : entries_of e o ≡ pass (entries_in e o)) where
+module _ (e : Encoding) (there : Bool) (o s : List ℕ) (yes-there : there ≡ true) (counted : entries_of e o ≡ Ok (entries_in e o)) where
   all_is : strings_check e there o s ≡ strings_at s (entries_in e o)
   unfolding strings_check
   all_is = rw (strings_check, yes-there) (then_pass _ _ _ counted)
@@ -57,10 +49,10 @@ module _ (b w : List ℕ) (ts : List (List ℕ)) (e : Encoding) (o s : List ℕ)
   pub strings_none : (count : ℕ) → count ≡ 0 → StringsIn b w t ts → StringsAre b w ts t.room t (strings_check e (leb 1 count) o s) (Ok tt)
   unfolding strings_check
   strings_none count h k =
-      let z : strings_check e (leb 1 count) o s ≡ pass [] = rw (strings_check, h) in
+      let z : strings_check e (leb 1 count) o s ≡ Ok [] = rw (strings_check, h) in
       tells_pass tt [] z (refl, rw (append-nil ts) k)
 
-  pub strings_ill : (many count : ℕ) → 1 ≤ count → (r : Refusal) → entries_of e o ≡ refuse (number_of r) → StringsAre b w ts many t (strings_check e (leb 1 count) o s) (Err r)
+  pub strings_ill : (many count : ℕ) → 1 ≤ count → (r : Refusal) → entries_of e o ≡ Err (number_of r) → StringsAre b w ts many t (strings_check e (leb 1 count) o s) (Err r)
   unfolding strings_check
   strings_ill many count h r q = tells_refuse r (rw (strings_check, le-leb 1 count h) (then_refuse _ _ (number_of r) q))
 

@@ -1,15 +1,8 @@
 -- The answers of opening a package of version 5, each from those of its checks: 10, 34, 8, 9.
-use mathlib.Core.Path.{◌≡◌, refl, sym, ap, ap₂, ◌∙◌, subst}
-use mathlib.Core.Logic.{inl, inr, ⊎_elim}
-use mathlib.Core.Bool.{true}
-use mathlib.Core.List.{List, ◌++◌}
-use mathlib.Core.Option.{Option}
-use Prim.Native.Nat.{ℕ}
-use native.Mathlib.Omega.{arith}
-use lib.ListN.{length}
-use Rattle.std.specs.Prelude.{Result, Ok, Err}
+use Rattle.std.proofs.Common.{◌≡◌, refl, sym, ap, ap₂, ◌∙◌, subst, inl, inr, ⊎_elim, true, List, ◌++◌, ℕ, arith, length}
+use Rattle.std.specs.Prelude.{Option, Result, Ok, Err}
 use Rattle.numbers.specs.declared.refusals.Refusal.{Refusal}
-use Rattle.octets.specs.Checked.{Check, pass, ◌>>=◌}
+use Rattle.octets.specs.Checked.{◌>>=◌}
 use Rattle.octets.proofs.Checks.{then_pass}
 use Rattle.bundle.specs.Bundle.{Part, body}
 use Rattle.bundle.specs.Encoding.{Encoding}
@@ -93,7 +86,7 @@ module _ (b : List ℕ) (x : ObjectEncoding) (scan : Scan) (at : ℕ) (ps : List
         subst (λ (l : List ℕ). PartsAre e l (tiles named_both l) r) (scan_body scan at ps is 6 (omega arith) b)
         (subst (λ (y : InputObject). PartsAnswered b y r) has.whole are both.0 both.1 has.cu has.tu)
 
-    module _ (good : ℕ) (us : List Contribution) (tiled : tiles named_both (body b ps 6) ≡ pass us) (ends : good ≡ good_end e (body b ps 6) us) where
+    module _ (good : ℕ) (us : List Contribution) (tiled : tiles named_both (body b ps 6) ≡ Ok us) (ends : good ≡ good_end e (body b ps 6) us) where
       up_to_law : x.five ≡ true → GoodUpTo b (str_offsets_in x scan) good us
       up_to_law f = record {
         five = is_five_law x f;
@@ -123,7 +116,7 @@ module _ (b : List ℕ) (x : ObjectEncoding) (scan : Scan) (at : ℕ) (ps : List
       pieces_told f w u v ts tab next c k r o eo puts =
           tells_same (sym (then_pass (tiles named_both (body b ps 6)) (pieces_of e (body b ps 11) (body b ps 6)) us tiled))
           (pieces_put b v ts tab.room next _ r
-          (subst (λ (m : Check (List Piece)). StringsAre b v ts tab.room next (m >>= λ y. pass (used_in y)) r) (ap₂ (λ (l s : List ℕ). pieces_of e l s us) (sym text) (sym own))
+          (subst (λ (m : Result (List Piece) ℕ). StringsAre b v ts tab.room next (m >>= λ y. Ok (used_in y)) r) (ap₂ (λ (l s : List ℕ). pieces_of e l s us) (sym text) (sym own))
           (subst (λ (y : StrOffsets). PartsPut b y good tab next u v r) eo puts ts us (strings_after b w u tab ts c k) (up_to_law f))))
 
   -- the answers of all
@@ -137,7 +130,7 @@ module _ (b : List ℕ) (x : ObjectEncoding) (scan : Scan) (at : ℕ) (ps : List
     -- behind both indexes
     module _ (y : InputObject) (found : IndexesFound b x scan (Ok y)) where
       behind : (r : Result InputObject Refusal)
-          → ((p : Option Index × Option Index) → IndexedObject b x scan y p → Tells (Opens b v ts many next x scan at ps is) (tiled_pieces e (body b ps) p.0 p.1 >>= λ q. pass (record { pieces = q; cu_index = p.0; tu_index = p.1 })) r)
+          → ((p : Option Index × Option Index) → IndexedObject b x scan y p → Tells (Opens b v ts many next x scan at ps is) (tiled_pieces e (body b ps) p.0 p.1 >>= λ q. Ok (record { pieces = q; cu_index = p.0; tu_index = p.1 })) r)
           → Answer r
       behind r k = tells_same (sym (tiled_steps e ps (body b ps))) (tells_then _ y r (tells_same (indexes_same b v ts many next x scan at ps is) found) (λ p _ h. k p h))
 

@@ -1,13 +1,8 @@
 -- 34 by marks, and 8 and 9 part by part, as code answers them.
-use mathlib.Core.Path.{◌≡◌, refl, sym, ap, ◌∙◌, subst}
-use mathlib.Core.Bool.{Bool, true, false}
-use mathlib.Core.List.{List, [], ◌++◌, map, append-nil}
-use mathlib.Core.Option.{Option, some}
-use Prim.Native.Nat.{ℕ, ◌+◌, ◌*◌, ◌-◌, ◌/◌, ◌<◌, ◌≤◌}
-use native.Mathlib.Omega.{arith}
-use lib.ListN.{length, get_or}
+use Rattle.std.proofs.Common.{◌≡◌, refl, sym, ap, ◌∙◌, subst, Bool, true, false, List, [], ◌++◌, map, append-nil, ℕ, ◌+◌, ◌*◌, ◌-◌, ◌/◌, ◌<◌, ◌≤◌, arith, length, get_or}
+use Rattle.std.specs.Prelude.{Option, Some, None, Result, Ok, Err}
 use Rattle.octets.specs.Octets.{part, zeros}
-use Rattle.octets.specs.Checked.{pass, ◌>>=◌}
+use Rattle.octets.specs.Checked.{◌>>=◌}
 use Rattle.octets.proofs.Checks.{then_pass, then_refuse, true_false}
 use Rattle.octets.proofs.Parts.{part_part, length_part}
 use Rattle.octets.proofs.Placed.{length_zeros}
@@ -26,11 +21,9 @@ use Rattle.places.proofs.Marking.{marks_none}
 use Rattle.places.proofs.Walking.{good_tiles, good_pass, bad_refused, clash_refused}
 use Rattle.places.proofs.Parts.{tiles_marked}
 use Rattle.package.specs.Pieces.{used_in, pieces_of}
-use Rattle.std.specs.Prelude.{Some, None}
 use Rattle.filing.specs.declared.input.InputObject.{InputObject}
 use Rattle.filing.specs.Judged.{section_of}
 use Rattle.filing.specs.ByObject.{StringsPut, StringsAre}
-use Rattle.std.specs.Prelude.{Result, Ok, Err}
 use Rattle.octets.specs.Options.{found}
 use Rattle.bundle.proofs.Units.{found_some, found_none}
 use Rattle.numbers.specs.Refused.{number_of}
@@ -46,7 +39,7 @@ module _ (o : Option Index) (cs : List Contribution) (ms : List ℕ) where
   unfolding named
   marked_none e m = rw (← found_none o e) (record { good = λ _. m; bad = λ y. absurd (true_false refl y) })
 
-  pub marked_some : (i : Index) → Some i ≡ found o → (ns : List ℕ) (r : Bool) → Marked (named (some i) ++ cs) ms ns r → Marked (named o ++ cs) ms ns r
+  pub marked_some : (i : Index) → Some i ≡ found o → (ns : List ℕ) (r : Bool) → Marked (named (Some i) ++ cs) ms ns r → Marked (named o ++ cs) ms ns r
   marked_some i e ns r k = subst (λ (p : Option Index). Marked (named p ++ cs) ms ns r) (found_some i o e) k
 
 -- ---- of both; those of the second are marked first
@@ -166,17 +159,17 @@ module _ (b : List ℕ) (o : StrOffsets) (inside : Inside b o.offsets) (good : �
       own x r added = subst (λ (z : StrOffsets). PiecesAdded b z x ts before_parts k r) ey added
 
       -- where 9 refuses, it doesn't count what they hold
-      pub parts_missing : (r : Refusal) → PiecesAdded b y [] ts before_parts k (Err r) → StringsAre b v ts many k (pieces_of e str s ps >>= λ q. pass (used_in q)) (Err r)
-      parts_missing r added = tells_refuse r (then_refuse (pieces_of e str s ps) (λ z. pass (used_in z)) (number_of r) (judged.missing (number_of r) (own [] (Err r) added)))
+      pub parts_missing : (r : Refusal) → PiecesAdded b y [] ts before_parts k (Err r) → StringsAre b v ts many k (pieces_of e str s ps >>= λ q. Ok (used_in q)) (Err r)
+      parts_missing r added = tells_refuse r (then_refuse (pieces_of e str s ps) (λ z. Ok (used_in z)) (number_of r) (judged.missing (number_of r) (own [] (Err r) added)))
 
       module _ (x : List ℕ) (added : PiecesAdded b y x ts before_parts k (Ok tt)) where
-        pub parts_ill : good < o.offsets.size → StringsAre b v ts many k (pieces_of e str s ps >>= λ z. pass (used_in z)) (Err BadStrOffsets)
+        pub parts_ill : good < o.offsets.size → StringsAre b v ts many k (pieces_of e str s ps >>= λ z. Ok (used_in z)) (Err BadStrOffsets)
         parts_ill h =
             let a = own x (Ok tt) added in
-            tells_refuse BadStrOffsets (then_refuse (pieces_of e str s ps) (λ z. pass (used_in z)) 8 (judged.ill a.0 a.1 (omega (arith, h, up.is, long))))
+            tells_refuse BadStrOffsets (then_refuse (pieces_of e str s ps) (λ z. Ok (used_in z)) 8 (judged.ill a.0 a.1 (omega (arith, h, up.is, long))))
 
-        pub parts_put : ((us : List (List ℕ)) → Kept b x k us → StringsPut b v many k us) → o.offsets.size ≤ good → StringsAre b v ts many k (pieces_of e str s ps >>= λ z. pass (used_in z)) (Ok tt)
+        pub parts_put : ((us : List (List ℕ)) → Kept b x k us → StringsPut b v many k us) → o.offsets.size ≤ good → StringsAre b v ts many k (pieces_of e str s ps >>= λ z. Ok (used_in z)) (Ok tt)
         parts_put back h =
             let a = own x (Ok tt) added in
             let j = judged.all a.0 a.1 (omega (arith, h, up.is, long, ending.high)) in
-            tells_pass tt (used_in j.0) (then_pass (pieces_of e str s ps) (λ z. pass (used_in z)) j.0 j.1) (rw j.2 (back _ a.2))
+            tells_pass tt (used_in j.0) (then_pass (pieces_of e str s ps) (λ z. Ok (used_in z)) j.0 j.1) (rw j.2 (back _ a.2))

@@ -1,12 +1,7 @@
 -- The regions that count for one section or one table: what is at hand stays while they are written, and they stay while units are filed.
-use mathlib.Core.Path.{◌≡◌, refl, sym, subst}
-use mathlib.Core.Logic.{inr}
-use mathlib.Core.List.{List}
-use Prim.Native.Nat.{ℕ}
-use native.Mathlib.Omega.{arith}
+use Rattle.std.proofs.Common.{◌≡◌, refl, sym, subst, inr, List, ℕ, arith}
 use Rattle.std.specs.Prelude.{Result}
 use Rattle.numbers.specs.declared.refusals.Refusal.{Refusal}
-use Rattle.octets.specs.Checked.{Check}
 use Rattle.unit.specs.TableTrees.{Remembers}
 use Rattle.unit.specs.declared.judged.Judged.{Judged}
 use Rattle.index.specs.Rows.{BySection}
@@ -46,11 +41,11 @@ module _ {r : Layout} (passing : Passing r) (b : List ℕ) {w v : List ℕ} (o :
   strings_lent st = record { same = o.same; strings = o.others strings_region passing.strings; table = refl }
 
   -- the answer for work behind it is that for work before
-  pub unit_lent : {x : InputObject} {i : Input} {place : ℕ} {u : List ℕ} {st next : InProgress} {bases : BySection ℕ} {earlier here : List Filed} {m : Check Filed} {r : Result ℕ Refusal}
+  pub unit_lent : {x : InputObject} {i : Input} {place : ℕ} {u : List ℕ} {st next : InProgress} {bases : BySection ℕ} {earlier here : List Filed} {m : Result Filed ℕ} {r : Result ℕ Refusal}
       → UnitIs b x i place v u st next bases earlier here m r → UnitIs b x i place w u st next bases earlier here m r
   unit_lent {st = st} k = tells_more (λ size y h. record { size_is = h.size_is; at_unit = h.at_unit; strings = kept_more (strings_lent st) h.strings }) k
 
-  pub units_lent : {x : InputObject} {i : Input} {place : ℕ} {u : List ℕ} {st next : InProgress} {bases : BySection ℕ} {earlier : List Filed} {m : Check (List Filed)} {r : Result (Unit {0}) Refusal}
+  pub units_lent : {x : InputObject} {i : Input} {place : ℕ} {u : List ℕ} {st next : InProgress} {bases : BySection ℕ} {earlier : List Filed} {m : Result (List Filed) ℕ} {r : Result (Unit {0}) Refusal}
       → UnitsAre b x i place v u st next bases earlier m r → UnitsAre b x i place w u st next bases earlier m r
   units_lent {st = st} k = tells_more (λ t y h. record { at_unit = h.at_unit; strings = kept_more (strings_lent st) h.strings }) k
 

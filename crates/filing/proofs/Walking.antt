@@ -1,15 +1,9 @@
 -- The walk over the units of one section: what the loop keeps, for every input and every list of units filed before.
-use mathlib.Core.Path.{◌≡◌, refl, sym, ap₂, ◌∙◌}
-use mathlib.Core.List.{List, [], ◌∷◌, ◌++◌}
-use Prim.Native.Nat.{ℕ, suc, ◌+◌, ◌-◌, ◌<◌, ◌≤◌}
-use native.Mathlib.Omega.{arith}
-use lib.ListN.{length, take, drop}
-use lib.Seq.{drop-drop}
+use Rattle.std.proofs.Common.{◌≡◌, refl, sym, ap₂, ◌∙◌, List, [], ◌∷◌, ◌++◌, ℕ, suc, ◌+◌, ◌-◌, ◌<◌, ◌≤◌, arith, length, take, drop, drop-drop}
 use Rattle.octets.specs.Octets.{part}
 use Rattle.std.specs.Prelude.{Result, Ok, Err}
 use Rattle.numbers.specs.Refused.{number_of}
 use Rattle.numbers.specs.declared.refusals.Refusal.{Refusal}
-use Rattle.octets.specs.Checked.{pass}
 use Rattle.octets.proofs.Parts.{length_part, drop_take}
 use Rattle.index.specs.Rows.{BySection}
 use Rattle.package.specs.Input.{Input}
@@ -82,7 +76,7 @@ module _ {b : List ℕ} {x : InputObject} {home start stop at : ℕ} {w₀ w : L
   module _ (size : ℕ) (filed : Answered (Ok size)) where
     record Next (i : Input) (bases : BySection ℕ) (earlier here : List Filed) : Type 0 where
       unit : Filed
-      is : unit_at i bases earlier here home (at - start) (part b at (stop - at)) ≡ pass unit
+      is : unit_at i bases earlier here home (at - start) (part b at (stop - at)) ≡ Ok unit
       done : UnitFiled b x i at w v st next bases earlier here size unit
 
     next_unit : (i : Input) (bases : BySection ℕ) (earlier here : List Filed) → AtUnit b x i at w st bases earlier here → Next i bases earlier here

@@ -1,6 +1,5 @@
 -- What the functions that file units answer, from the definitions.
 use Rattle.std.specs.Prelude.{◌≡◌, List, [], ◌∷◌, ◌++◌, ℕ, ◌+◌, length, Result}
-use Rattle.octets.specs.Checked.{Check}
 use Rattle.numbers.specs.declared.refusals.Refusal.{Refusal}
 use Rattle.index.specs.Rows.{BySection}
 use Rattle.package.specs.Input.{Input}
@@ -24,7 +23,7 @@ pub record UnitFiled (b : List ℕ) (x : InputObject) (i : Input) (place : ℕ) 
   pub at_unit : AtUnit b x i (place + size) v next bases earlier (here ++ (u ∷ []))
   pub strings : StringsKept (words_in b) w v st next
 
-abbrev pub UnitIs : List ℕ → InputObject → Input → ℕ → List ℕ → List ℕ → InProgress → InProgress → BySection ℕ → List Filed → List Filed → Check Filed → Result ℕ Refusal → Type 0
+abbrev pub UnitIs : List ℕ → InputObject → Input → ℕ → List ℕ → List ℕ → InProgress → InProgress → BySection ℕ → List Filed → List Filed → Result Filed ℕ → Result ℕ Refusal → Type 0
 UnitIs b x i place w v st next bases earlier here c r = Tells (UnitFiled b x i place w v st next bases earlier here) c r
 
 -- the units of a section or of an object are filed up to a place
@@ -32,5 +31,5 @@ pub record UnitsFiled (b : List ℕ) (x : InputObject) (i : Input) (place : ℕ)
   pub at_unit : AtUnit b x i place v next bases earlier us
   pub strings : StringsKept (words_in b) w v st next
 
-abbrev pub UnitsAre : List ℕ → InputObject → Input → ℕ → List ℕ → List ℕ → InProgress → InProgress → BySection ℕ → List Filed → Check (List Filed) → Result (Unit {0}) Refusal → Type 0
+abbrev pub UnitsAre : List ℕ → InputObject → Input → ℕ → List ℕ → List ℕ → InProgress → InProgress → BySection ℕ → List Filed → Result (List Filed) ℕ → Result (Unit {0}) Refusal → Type 0
 UnitsAre b x i place w v st next bases earlier c r = Tells (λ _ us. UnitsFiled b x i place w v st next bases earlier us) c r

@@ -1,11 +1,10 @@
 -- What the functions that file whole objects answer, from the definitions.
-use Rattle.std.specs.Prelude.{◌≡◌, Bool, true, false, List, [], ◌++◌, ℕ, ◌+◌, ◌*◌, ◌/◌, ◌≤◌, length, Result, ◌==◌, nat_le, slice_index, if◌then◌else◌}
-use Rattle.std.proofs.Math.Option.{Option}
+use Rattle.std.specs.Prelude.{◌≡◌, Bool, true, false, List, [], ◌++◌, ℕ, ◌+◌, ◌*◌, ◌/◌, ◌≤◌, length, Result, ◌==◌, nat_le, slice_index, if◌then◌else◌, Option, Ok}
 use Rattle.numbers.specs.Tables.{dwarf5}
 use Rattle.numbers.specs.Sections.{str_offsets_code, str_code, cu_index_code, tu_index_code}
 use Rattle.octets.specs.Octets.{part}
 use Rattle.numbers.specs.declared.refusals.Refusal.{Refusal}
-use Rattle.octets.specs.Checked.{Check, pass, ◌>>=◌}
+use Rattle.octets.specs.Checked.{◌>>=◌}
 use Rattle.bundle.specs.Bundle.{Part, body}
 use Rattle.bundle.specs.Scan.{scan_of, start_of, size_of, offsets_from}
 use Rattle.bundle.specs.declared.Scan.{Scan}
@@ -34,8 +33,8 @@ use Rattle.filing.specs.Tells.{Tells}
 
 -- ---- 8 and 9
 -- the strings of a str_offsets that is there
-unfoldable pub strings_check : Encoding → Bool → List ℕ → List ℕ → Check (List (List ℕ))
-strings_check e there offsets text = if there then entries_of e offsets >>= strings_at text else pass []
+unfoldable pub strings_check : Encoding → Bool → List ℕ → List ℕ → Result (List (List ℕ)) ℕ
+strings_check e there offsets text = if there then entries_of e offsets >>= strings_at text else Ok []
 
 -- the words of the table, at the front of the strings' region, hold the strings used so far, in work w for the bundle b
 pub record StringsIn (b w : List ℕ) (t : StringTable) (ts : List (List ℕ)) : Type 0 where
@@ -61,7 +60,7 @@ pub record StringsAsked (b : List ℕ) (o : StrOffsets) (t : StringTable) (w : L
   pub kept : StringsIn b w t strings
 
 -- the refusal, or that they are put behind those used before; v is work behind, next the table, and room what the one before it has
-abbrev pub StringsAre : List ℕ → List ℕ → List (List ℕ) → ℕ → StringTable → Check (List (List ℕ)) → Result (Unit {0}) Refusal → Type 0
+abbrev pub StringsAre : List ℕ → List ℕ → List (List ℕ) → ℕ → StringTable → Result (List (List ℕ)) ℕ → Result (Unit {0}) Refusal → Type 0
 StringsAre b v ts room next c r = Tells (λ _ used. StringsPut b v room next (ts ++ used)) c r
 
 abbrev pub StringsAnswered : List ℕ → StrOffsets → ℕ → StringTable → StringTable → List ℕ → List ℕ → Result (Unit {0}) Refusal → Type 0
@@ -87,12 +86,12 @@ abbrev pub ScanInside : List ℕ → Scan → ℕ → Type 0
 ScanInside b scan c = slice_index scan.start c + slice_index scan.size c ≤ length b
 
 -- the index in it, where it is there
-unfoldable pub scanned_index : ObjectEncoding → List ℕ → Scan → ℕ → Check (Option Index)
+unfoldable pub scanned_index : ObjectEncoding → List ℕ → Scan → ℕ → Result (Option Index) ℕ
 scanned_index e b scan c = index_check e.big (form_of (encoding_is e)) (nat_le 1 (slice_index scan.count c)) (scanned b scan c)
 
 -- both, the first refusal first
-abbrev pub scanned_indexes : ObjectEncoding → List ℕ → Scan → Check (Option Index × Option Index)
-scanned_indexes e b scan = scanned_index e b scan cu_index_code >>= λ c. (scanned_index e b scan tu_index_code >>= λ t. pass (c, t))
+abbrev pub scanned_indexes : ObjectEncoding → List ℕ → Scan → Result (Option Index × Option Index) ℕ
+scanned_indexes e b scan = scanned_index e b scan cu_index_code >>= λ c. (scanned_index e b scan tu_index_code >>= λ t. Ok (c, t))
 
 -- an object with a scan's sections and both indexes by value
 pub record IndexedObject (b : List ℕ) (e : ObjectEncoding) (scan : Scan) (x : InputObject) (is : Option Index × Option Index) : Type 0 where
@@ -112,13 +111,13 @@ pub record AtObject (b : List ℕ) (big : Bool) (first place : ℕ) (w : List �
 
 -- ---- 4 to 10
 -- the refusal, or that the object is there by value and its strings are put; v is work behind, next the table, and room what the one before it has
-abbrev pub InputRead : List ℕ → List ℕ → List (List ℕ) → ℕ → StringTable → Check Input → Result InputObject Refusal → Type 0
+abbrev pub InputRead : List ℕ → List ℕ → List (List ℕ) → ℕ → StringTable → Result Input ℕ → Result InputObject Refusal → Type 0
 InputRead b v ts room next c r = Tells (λ x i. InputIs b x i × StringsPut b v room next (ts ++ used_in i.pieces)) c r
 
 -- an object and what is opened of it
-unfoldable pub input_given : List ℕ → Encoding → List Part → Check Opened → Check Input
+unfoldable pub input_given : List ℕ → Encoding → List Part → Result Opened ℕ → Result Input ℕ
 input_given b e ps m =
-    m >>= λ t. pass (record { encoding = e; bytes = body b ps; units = unit_sections b ps; pieces = t.pieces; cu_index = t.cu_index; tu_index = t.tu_index })
+    m >>= λ t. Ok (record { encoding = e; bytes = body b ps; units = unit_sections b ps; pieces = t.pieces; cu_index = t.cu_index; tu_index = t.tu_index })
 
 -- what it takes, of an object with sections ps: they lie in the bundle, and there is room for its strings, an entry taking 4 bytes or more
 pub record InputRoom (b : List ℕ) (ps : List Part) (words : ℕ) (t : StringTable) : Type 0 where
@@ -137,7 +136,7 @@ pub record InputAsked (b : List ℕ) (scan : Scan) (t : StringTable) (w : List �
   pub kept : StringsIn b w t strings
 
 -- 8 to 10 and 34, of an object with a good encoding e, by what opens it
-abbrev pub OpenAnswered : (Encoding → List Part → BySection (List ℕ) → Check Opened) → List ℕ → ObjectEncoding → Scan → StringTable → StringTable → List ℕ → List ℕ → Result InputObject Refusal → Type 0
+abbrev pub OpenAnswered : (Encoding → List Part → BySection (List ℕ) → Result Opened ℕ) → List ℕ → ObjectEncoding → Scan → StringTable → StringTable → List ℕ → List ℕ → Result InputObject Refusal → Type 0
 OpenAnswered opens b e scan t next w v r =
     (at : ℕ) (ps : List Part) (ts : List (List ℕ)) → scan ≡ scan_of at ps → InputRoom b ps (length w) t → StringsIn b w t ts
     → InputRead b v ts t.room next (input_given b (encoding_is e) ps (opens (encoding_is e) ps (body b ps))) r

@@ -6,7 +6,6 @@ use Rattle.numbers.specs.declared.refusals.Refusal.{Refusal}
 use Rattle.numbers.specs.declared.refusals.Refusal.TheVariants.{IdentitySeen}
 use Rattle.octets.specs.Octets.{part}
 use Rattle.octets.specs.Lists.{any, same}
-use Rattle.octets.specs.Checked.{pass}
 use Rattle.numbers.specs.Limits.{bundle_limit, least_unit_bytes}
 use Rattle.unit.specs.UnitRead.{unit_by}
 use Rattle.index.specs.Rows.{BySection}
@@ -28,7 +27,7 @@ use Rattle.unit.specs.declared.header.UnitRead.{UnitRead}
 
 -- a unit of so many bytes was read from the front of s, which stands at a place of the section home
 pub record ReadAt (i : Input) (home at size table identity : ℕ) (s : List ℕ) : Type 0 where
-  pub is : unit_by i.encoding home (abbreviations_for i home at) s ≡ pass (record { size = size; table = table; identity = identity })
+  pub is : unit_by i.encoding home (abbreviations_for i home at) s ≡ Ok (record { size = size; table = table; identity = identity })
   pub tables : OneOrTwo table
   pub not_zero_law : identity ≡ 0 → ⊥
   pub small : identity < 2 ^ 64

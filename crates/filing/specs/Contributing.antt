@@ -1,9 +1,8 @@
 -- 15 and 16 by an index or none.
-use Rattle.std.specs.Prelude.{Bool, not, List, ℕ, Result}
-use Rattle.std.proofs.Math.Option.{Option, some, none}
+use Rattle.std.specs.Prelude.{Bool, not, List, ℕ, Result, Option, Some, None, Ok}
 use Rattle.numbers.specs.Refusals.{no_row}
 use Rattle.numbers.specs.declared.refusals.Refusal.{Refusal}
-use Rattle.octets.specs.Checked.{Check, pass, ◌>>=◌, require}
+use Rattle.octets.specs.Checked.{◌>>=◌, require}
 use Rattle.index.specs.Index.{Index, Contribution}
 use Rattle.index.specs.Rows.{BySection, row_contributions, whole_contributions}
 use Rattle.index.specs.Contributed.{ContributionsAre, by_code}
@@ -19,15 +18,15 @@ use Rattle.filing.specs.Tells.{Tells}
 use Rattle.filing.specs.Judged.{InputIs}
 
 -- without an index for the unit's table: 15 in a package of version 5
-unfoldable pub whole_given : Bool → BySection ℕ → Check (BySection (Option Contribution))
-whole_given packed lengths = require (not packed) no_row >>= λ _. pass (whole_contributions lengths)
+unfoldable pub whole_given : Bool → BySection ℕ → Result (BySection (Option Contribution)) ℕ
+whole_given packed lengths = require (not packed) no_row >>= λ _. Ok (whole_contributions lengths)
 
-unfoldable pub contributions_by : Bool → Option Index → ℕ → BySection ℕ → ℕ → ℕ → ℕ → ℕ → Check (BySection (Option Contribution))
-contributions_by packed (some x) width lengths identity home at size = row_contributions x width lengths identity home at size
-contributions_by packed none width lengths identity home at size = whole_given packed lengths
+unfoldable pub contributions_by : Bool → Option Index → ℕ → BySection ℕ → ℕ → ℕ → ℕ → ℕ → Result (BySection (Option Contribution)) ℕ
+contributions_by packed (Some x) width lengths identity home at size = row_contributions x width lengths identity home at size
+contributions_by packed None width lengths identity home at size = whole_given packed lengths
 
 -- the contributions by value
-abbrev pub GivenIs : Check (BySection (Option Contribution)) → Result Contributions Refusal → Type 0
+abbrev pub GivenIs : Result (BySection (Option Contribution)) ℕ → Result Contributions Refusal → Type 0
 GivenIs c r = Tells ContributionsAre c r
 
 -- by measures and a unit by value

@@ -1,11 +1,10 @@
 -- An object by value, and the definition's.
-use Rattle.std.specs.Prelude.{◌≡◌, Bool, true, false, ◌&&◌, ◌||◌, Option, Some, None, is_some, Result, List, ℕ, ◌+◌, ◌<◌, ◌≤◌, length, ◌==◌, slice_index, if◌then◌else◌}
-use Rattle.std.proofs.Math.Option as math
+use Rattle.std.specs.Prelude.{◌≡◌, Bool, true, false, ◌&&◌, ◌||◌, Option, Some, None, is_some, Result, List, ℕ, ◌+◌, ◌<◌, ◌≤◌, length, ◌==◌, slice_index, if◌then◌else◌, Ok}
 use Rattle.numbers.specs.Sections.{cu_index_code, tu_index_code, section_codes}
 use Rattle.numbers.specs.Refusals.{bad_encoding, other_encoding, wrong_edition, section_missing, bad_index}
 use Rattle.octets.specs.Octets.{part}
 use Rattle.numbers.specs.declared.refusals.Refusal.{Refusal}
-use Rattle.octets.specs.Checked.{Check, pass, ◌>>=◌, require}
+use Rattle.octets.specs.Checked.{◌>>=◌, require}
 use Rattle.bundle.specs.Bundle.{Part}
 use Rattle.bundle.specs.Encoding.{Encoding, encoding_of, encoding_good}
 use Rattle.bundle.specs.Encoded.{encoding_is}
@@ -26,11 +25,11 @@ abbrev pub Indexed : Type 0
 Indexed = Option IndexHead
 
 -- it is that of a section's bytes
-unfoldable pub IndexedIs : Bool → List ℕ → Indexed → math.Option Index → Type 0
-IndexedIs big s (Some h) (math.some i) = (ReadWell big s h) × (i ≡ index_in big s h)
-IndexedIs big s (Some h) math.none = ⊥
-IndexedIs big s None (math.some i) = ⊥
-IndexedIs big s None math.none = Unit {0}
+unfoldable pub IndexedIs : Bool → List ℕ → Indexed → Option Index → Type 0
+IndexedIs big s (Some h) (Some i) = (ReadWell big s h) × (i ≡ index_in big s h)
+IndexedIs big s (Some h) None = ⊥
+IndexedIs big s None (Some i) = ⊥
+IndexedIs big s None None = Unit {0}
 
 -- whether the object is a package of version 5
 unfoldable pub packed_by : InputObject → Bool
@@ -45,24 +44,24 @@ pub record InputIs (b : List ℕ) (x : InputObject) (i : Input) : Type 0 where
 
 -- ---- the lines of `input_of`
 -- 4 to 7
-unfoldable pub object_check : Bool → ℕ → ℕ → List Part → Check Encoding
+unfoldable pub object_check : Bool → ℕ → ℕ → List Part → Result Encoding ℕ
 object_check big first word ps = do
   let e = encoding_of big word
   _ ← require (encoding_good e) bad_encoding
   _ ← require (word == first) other_encoding
   _ ← require (edition_good e ps) wrong_edition
   _ ← require (complete ps) section_missing
-  pass e
+  Ok e
 
-abbrev pub JudgedIs : Check Encoding → Result ObjectEncoding Refusal → Type 0
+abbrev pub JudgedIs : Result Encoding ℕ → Result ObjectEncoding Refusal → Type 0
 JudgedIs c r = Tells (λ x e. encoding_is x ≡ e) c r
 
 -- 10, where the section is there or not; form is the version that an index must have
-unfoldable pub index_check : Bool → ℕ → Bool → List ℕ → Check (math.Option Index)
+unfoldable pub index_check : Bool → ℕ → Bool → List ℕ → Result (Option Index) ℕ
 index_check big form there s =
     if there
-    then (index_of big s >>= λ i. (require (i.version == form) bad_index >>= λ _. pass (math.some i)))
-    else pass math.none
+    then (index_of big s >>= λ i. (require (i.version == form) bad_index >>= λ _. Ok (Some i)))
+    else Ok None
 
-abbrev pub JudgedIndexIs : Bool → List ℕ → Check (math.Option Index) → Result Indexed Refusal → Type 0
+abbrev pub JudgedIndexIs : Bool → List ℕ → Result (Option Index) ℕ → Result Indexed Refusal → Type 0
 JudgedIndexIs big s c r = Tells (IndexedIs big s) c r

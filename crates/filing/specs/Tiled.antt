@@ -1,11 +1,10 @@
 -- What the functions for a package of version 5 require and ensure: 34, then 8 and 9 part by part.
-use Rattle.std.specs.Prelude.{◌≡◌, Bool, List, [], ◌++◌, ℕ, ◌+◌, ◌*◌, ◌/◌, ◌≤◌, length, Result, slice_index}
+use Rattle.std.specs.Prelude.{◌≡◌, Bool, List, [], ◌++◌, ℕ, ◌+◌, ◌*◌, ◌/◌, ◌≤◌, length, Result, slice_index, Option, Ok}
 use Rattle.std.specs.Prelude as code
-use Rattle.std.proofs.Math.Option.{Option}
 use Rattle.numbers.specs.Tables.{dwarf5}
 use Rattle.numbers.specs.Sections.{str_offsets_code, cu_index_code, tu_index_code}
 use Rattle.numbers.specs.declared.refusals.Refusal.{Refusal}
-use Rattle.octets.specs.Checked.{Check, pass, ◌>>=◌}
+use Rattle.octets.specs.Checked.{◌>>=◌}
 use Rattle.bundle.specs.Encoding.{Encoding}
 use Rattle.bundle.specs.Encoded.{encoding_is}
 use Rattle.numbers.specs.Limits.{bundle_limit, work_for_word}
@@ -45,7 +44,7 @@ BothMarked b x ms ns r =
     → Marks [] ms → (length ns ≡ length ms) × Marked (named cu ++ named tu) ms ns r
 
 -- the refusal, or where the first part starts that 8 refuses
-abbrev pub PartsAre : Encoding → List ℕ → Check (List Contribution) → Result ℕ Refusal → Type 0
+abbrev pub PartsAre : Encoding → List ℕ → Result (List Contribution) ℕ → Result ℕ Refusal → Type 0
 PartsAre e s c r = Tells (λ good ts. good ≡ good_end e s ts) c r
 
 abbrev pub PartsAnswered : List ℕ → InputObject → Result ℕ Refusal → Type 0
@@ -79,4 +78,4 @@ pub record PartsPutAsked (b : List ℕ) (o : StrOffsets) (good : ℕ) (t : Strin
 abbrev pub PartsPut : List ℕ → StrOffsets → ℕ → StringTable → StringTable → List ℕ → List ℕ → Result (Unit {0}) Refusal → Type 0
 PartsPut b o good t next w v r =
     (ts : List (List ℕ)) (ps : List Contribution) → StringsIn b w t ts → GoodUpTo b o good ps
-    → StringsAre b v ts t.room next (pieces_of (encoding_is o.encoding) (bytes_at b o.strings) (bytes_at b o.offsets) ps >>= λ q. pass (used_in q)) r
+    → StringsAre b v ts t.room next (pieces_of (encoding_is o.encoding) (bytes_at b o.strings) (bytes_at b o.offsets) ps >>= λ q. Ok (used_in q)) r

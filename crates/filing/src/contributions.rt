@@ -2,7 +2,7 @@
 ghost use Rattle.std.specs.Prelude.{◌≡◌, ◌<◌, IfSome};
 ghost use Rattle.octets.specs.Options.{found};
 ghost use Rattle.numbers.specs.Tabled.{table_number};
-ghost use Rattle.std.proofs.Math.Option.{Option};
+ghost use Rattle.std.specs.Prelude.{Option};
 ghost use Rattle.index.specs.Index.{Index};
 ghost use Rattle.package.specs.Input.{Input};
 ghost use Rattle.package.specs.Filing.{index_for};

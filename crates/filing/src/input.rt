@@ -1,6 +1,6 @@
 // One object, judged up to its units: 4 to 7 and 10. What it answers is by value; the bytes stay in the bundle.
 ghost use Rattle.std.specs.Prelude.{◌≡◌, List, ℕ, ◌+◌, ◌<◌, ◌≤◌, length, IfSome, nat_le, slice_index};
-ghost use Rattle.std.proofs.Math.Option.{Option};
+ghost use Rattle.std.specs.Prelude.{Option};
 ghost use Rattle.octets.specs.Options.{found};
 ghost use Rattle.index.specs.Index.{Index};
 ghost use Rattle.index.specs.Held.{Well};

@@ -1,15 +1,9 @@
 -- The answers, case by case, and what stands in the output.
-use mathlib.Core.Path.{◌≡◌, sym, ap, ◌∙◌}
-use mathlib.Core.Bool.{Bool, true, false}
-use mathlib.Core.List.{List, [], ◌∷◌}
-use Prim.Native.Nat.{ℕ, ◌-◌, ◌<◌, ◌≤◌}
-use native.Mathlib.Omega.{arith}
-use lib.Dec.{leb}
-use lib.ListN.{length}
-use borrow.Author.Tests.{le-leb, lt-leb}
+use Rattle.std.proofs.Common.{◌≡◌, sym, ap, ◌∙◌, Bool, true, false, List, [], ◌∷◌, ℕ, ◌-◌, ◌<◌, ◌≤◌, arith, leb, length, le-leb}
+use borrow.Author.Tests.{lt-leb}
 use Rattle.octets.specs.Octets.{padded, zeros}
 use Rattle.octets.specs.Lists.{all}
-use Rattle.octets.specs.Checked.{Check, pass, refuse}
+use Rattle.std.specs.Prelude.{Result, Ok, Err}
 use Rattle.octets.proofs.Checks.{passes, fails}
 use Rattle.bundle.specs.Written.{written}
 use Rattle.answers.specs.Answers.{Answer, short, made, answered, output_of}
@@ -20,16 +14,16 @@ use Rattle.finish.proofs.SectionSizes.{good_is, length_is, bad_sections}
 use Rattle.finish.specs.Finish.{one_object}
 
 -- ---- of a check
-module _ (c : Check (List ℕ)) (o : ℕ) where
-  pub refused_answer : (n : ℕ) → c ≡ refuse n → told.refused n ≡ outcome_of (answered c o)
+module _ (c : Result (List ℕ) ℕ) (o : ℕ) where
+  pub refused_answer : (n : ℕ) → c ≡ Err n → told.refused n ≡ outcome_of (answered c o)
   unfolding outcome_of answered
   refused_answer n e = rw e
 
-  pub refused_output : (n : ℕ) → c ≡ refuse n → (d : List ℕ) → d ≡ zeros o → d ≡ output_of (answered c o) o
+  pub refused_output : (n : ℕ) → c ≡ Err n → (d : List ℕ) → d ≡ zeros o → d ≡ output_of (answered c o) o
   unfolding output_of answered
   refused_output n e d z = rw e z
 
-  module _ (p : List ℕ) (e : c ≡ pass p) where
+  module _ (p : List ℕ) (e : c ≡ Ok p) where
     pub short_is : o < length p → answered c o ≡ short (length p)
     unfolding answered
     short_is h = rw (e, answered, lt-leb (length p) o h)
@@ -56,24 +50,24 @@ module _ (c : Check (List ℕ)) (o : ℕ) where
 
 -- ---- of one object with its sections
 module _ (big : Bool) (word : ℕ) (s : ℕ → List ℕ) where
-  pub one_good : all (λ x. leb (length x.bytes) 8_388_607) (sections_by s) ≡ true → one_object big word s ≡ pass (written big (record { word = word; sections = sections_by s } ∷ []))
+  pub one_good : all (λ x. leb (length x.bytes) 8_388_607) (sections_by s) ≡ true → one_object big word s ≡ Ok (written big (record { word = word; sections = sections_by s } ∷ []))
   unfolding one_object
-  one_good e = passes _ 19 (λ _. pass (written big (record { word = word; sections = sections_by s } ∷ []))) e
+  one_good e = passes _ 19 (λ _. Ok (written big (record { word = word; sections = sections_by s } ∷ []))) e
 
-  pub one_bad : all (λ x. leb (length x.bytes) 8_388_607) (sections_by s) ≡ false → one_object big word s ≡ refuse 19
+  pub one_bad : all (λ x. leb (length x.bytes) 8_388_607) (sections_by s) ≡ false → one_object big word s ≡ Err 19
   unfolding one_object
-  one_bad e = fails _ 19 (λ _. pass (written big (record { word = word; sections = sections_by s } ∷ []))) e
+  one_bad e = fails _ 19 (λ _. Ok (written big (record { word = word; sections = sections_by s } ∷ []))) e
 
   -- str is above the limit
-  pub one_over : 8_388_607 < length (s 11) → one_object big word s ≡ refuse 19
+  pub one_over : 8_388_607 < length (s 11) → one_object big word s ≡ Err 19
   unfolding sections_by
   one_over h = one_bad (bad_sections s 1 13 11 (omega arith) (omega arith) h)
 
   module _ (sizes : List ℕ) (z : Sized sizes s) where
-    pub sized_bad : sizes_good sizes ≡ false → one_object big word s ≡ refuse 19
+    pub sized_bad : sizes_good sizes ≡ false → one_object big word s ≡ Err 19
     sized_bad e = one_bad (sym (good_is sizes s z) ∙ e)
 
-    pub sized_good : sizes_good sizes ≡ true → one_object big word s ≡ pass (written big (record { word = word; sections = sections_by s } ∷ []))
+    pub sized_good : sizes_good sizes ≡ true → one_object big word s ≡ Ok (written big (record { word = word; sections = sections_by s } ∷ []))
     sized_good e = one_good (sym (good_is sizes s z) ∙ e)
 
     pub sized_length : (n : ℕ) → n ≡ length_of sizes → n ≡ length (written big (record { word = word; sections = sections_by s } ∷ []))

@@ -1,11 +1,6 @@
 -- A package written section by section, into an output that is zero behind.
-use mathlib.Core.Path.{◌≡◌, refl, sym, ap, ◌∙◌}
-use mathlib.Core.Bool.{Bool}
-use mathlib.Core.List.{List, [], ◌∷◌, ◌++◌, map, append-nil, append_assoc}
-use Prim.Native.Nat.{ℕ, ◌+◌, ◌*◌, ◌-◌, ◌<◌, ◌≤◌}
-use native.Mathlib.Omega.{arith}
+use Rattle.std.proofs.Common.{◌≡◌, refl, sym, ap, ◌∙◌, Bool, List, [], ◌∷◌, ◌++◌, map, append-nil, append_assoc, ℕ, ◌+◌, ◌*◌, ◌-◌, ◌<◌, ◌≤◌, arith, length, length-append}
 use native.Mathlib.Decide.{ℕ_discrete}
-use lib.ListN.{length, length-append}
 use Rattle.octets.specs.Octets.{placed, padded, zeros}
 use Rattle.octets.specs.Lists.{joined, those}
 use Rattle.octets.proofs.Placed.{length_padded}
@@ -17,7 +12,7 @@ use Rattle.finish.specs.Writing.{sections_left, front_of, Writing}
 use Rattle.finish.proofs.SectionSizes.{framed_none, framed_some, skip_turn, keep_turn, sections_over}
 
 front_is : (big : Bool) (word : ℕ) (bytes : ℕ → List ℕ) → head_bytes big ++ joined (map object_bytes (record { word = word; sections = sections_by bytes } ∷ [])) ≡ front_of big word bytes
-unfolding front_of sections_left sections_by object_bytes joined
+unfolding front_of sections_left sections_by object_bytes
 front_is big word bytes =
     let rest = joined (map section_bytes (those not_empty (sections_from bytes 1 13))) in
     ap (λ (z : List ℕ). head_bytes big ++ z) (append-nil (word_bytes word ++ rest)) ∙ sym (append_assoc (head_bytes big) (word_bytes word) rest)
@@ -69,7 +64,7 @@ module _ (front : List ℕ) (bytes : ℕ → List ℕ) (d : List ℕ) (at c : �
     one = record { code = c; bytes = bytes c }
 
     behind : w.p ++ section_bytes one ++ sections_left bytes (c + 1) ≡ front
-    unfolding sections_left joined one
+    unfolding sections_left one
     behind = append_assoc w.p (section_bytes one) (sections_left bytes (c + 1))
         ∙ ap (λ (ss : List Section). w.p ++ joined (map section_bytes ss)) (sym (keep_turn bytes c h (λ z. some (sized ∙ z)))) ∙ w.left
 
@@ -109,7 +104,7 @@ module _ (front : List ℕ) (bytes : ℕ → List ℕ) (d : List ℕ) (at c : �
 -- all sections are written
 module _ (big : Bool) (word : ℕ) (bytes : ℕ → List ℕ) (d : List ℕ) (at c : ℕ) (w : Writing (front_of big word bytes) bytes d at c) (h : 14 ≤ c) where
   whole : w.p ≡ front_of big word bytes
-  unfolding sections_left joined
+  unfolding sections_left
   whole = sym (append-nil w.p) ∙ ap (λ (ss : List Section). w.p ++ joined (map section_bytes ss)) (sym (sections_over bytes c h)) ∙ w.left
 
   pub writing_place : at + 4 ≡ length (written big (record { word = word; sections = sections_by bytes } ∷ []))

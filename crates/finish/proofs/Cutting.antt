@@ -1,17 +1,9 @@
 -- A str_offsets section cut by its headers: the pieces of an input that passed, its strings, and what is written of it.
-use mathlib.Core.Path.{◌≡◌, refl, sym, ap, ap₂, ◌∙◌, subst}
-use mathlib.Core.Logic.{⊎_elim}
-use mathlib.Core.Bool.{Bool, true, false, ◌&&◌, ◌||◌}
-use mathlib.Core.List.{List, [], ◌∷◌, ◌++◌}
-use Prim.Native.Nat.{ℕ, zero, suc, ◌+◌, ◌≤◌}
-use native.Mathlib.Omega.{arith}
+use Rattle.std.proofs.Common.{◌≡◌, refl, sym, ap, ap₂, ◌∙◌, subst, ⊎_elim, Bool, true, false, ◌&&◌, ◌||◌, List, [], ◌∷◌, ◌++◌, ℕ, zero, suc, ◌+◌, ◌≤◌, arith, eqb, length, take, drop, length-append, take_at, drop_at, eqb-true, ne_eqb}
 use native.Mathlib.Decide.{ℕ_discrete}
-use lib.Dec.{eqb}
-use lib.ListN.{length, take, drop, length-append}
-use lib.Seq.{take_at, drop_at}
-use borrow.Author.Tests.{eqb-true, eqb-false, ne_eqb}
+use borrow.Author.Tests.{eqb-false}
 use Rattle.octets.specs.Lists.{joined}
-use Rattle.octets.specs.Checked.{pass}
+use Rattle.std.specs.Prelude.{Ok}
 use Rattle.octets.proofs.Checks.{known, bind_pass}
 use Rattle.bundle.specs.Encoding.{Encoding}
 use Rattle.bundle.proofs.Every.{Every}
@@ -64,7 +56,7 @@ cut_is e s ps h = cut_from_law (length s) e s ps (omega arith) h
 
 -- ---- written
 -- as long as the section
-pieces_long : (e : Encoding) (ts : List (List ℕ)) (str : List ℕ) → Sound e → (s : List ℕ) (ps used : List (List ℕ)) → Headed e s ps → strings_of_all e str ps ≡ pass used
+pieces_long : (e : Encoding) (ts : List (List ℕ)) (str : List ℕ) → Sound e → (s : List ℕ) (ps used : List (List ℕ)) → Headed e s ps → strings_of_all e str ps ≡ Ok used
     → length (remapped_pieces e ts str ps) ≡ length s
 unfolding Headed strings_of_all remapped_pieces
 pieces_long e ts str ok s [] used h q = sym (ap length h)
@@ -91,11 +83,11 @@ nothing_long (x ∷ xs) e = absurd (omega arith)
 record Cuts (e : Encoding) (s str : List ℕ) (ps : List Piece) : Type 0 where
   pub pieces : List (List ℕ)
   pub headed : Headed e s pieces
-  pub strings : strings_of_all e str pieces ≡ pass (used_in ps)
+  pub strings : strings_of_all e str pieces ≡ Ok (used_in ps)
   pub out : (table : List (List ℕ)) → remapped_all e table ps ≡ remapped_pieces e table str pieces
 
 out_all : (e : Encoding) (table : List (List ℕ)) (str : List ℕ) (ps : List Piece) → Every (PieceFacts e str) ps → remapped_all e table ps ≡ remapped_pieces e table str (bytes_of ps)
-unfolding remapped_all remapped_pieces joined
+unfolding remapped_all remapped_pieces
 out_all e table str [] f = refl
 out_all e table str (p ∷ ps) f =
     ap₂ (λ (x y : List ℕ). x ++ y) (ap (remapped e table p.bytes) (sym (used_is e str p.bytes p.used (each_head f).strings))) (out_all e table str ps (each_tail f))
@@ -110,7 +102,7 @@ unfolding strings_of_all remapped_pieces
 cuts_none e s str ps ok f z = record {
   pieces = [];
   headed = subst (λ (l : List ℕ). Headed e l []) (sym (no_length s z)) (none_headed e);
-  strings = ap pass (sym (none_used e s str ps ok f z));
+  strings = ap Ok (sym (none_used e s str ps ok f z));
   out = λ table. no_length (remapped_all e table ps) (all_length e table str ps ok f.each ∙ ap length f.joins ∙ z);
 }
 

@@ -1,12 +1,7 @@
 -- Behind an object's word: its sections lie in the bundle, a scan names them, and the pass goes on behind them.
-use mathlib.Core.Path.{◌≡◌, refl, sym, ap, ◌∙◌}
-use mathlib.Core.List.{List, [], ◌∷◌, ◌++◌}
-use mathlib.Core.Option.{Option, some, none}
-use Prim.Native.Nat.{ℕ, ◌+◌, ◌<◌, ◌≤◌}
-use native.Mathlib.Omega.{arith}
-use lib.ListN.{length, get_or, drop}
+use Rattle.std.proofs.Common.{◌≡◌, refl, sym, ap, ◌∙◌, List, [], ◌∷◌, ◌++◌, ℕ, ◌+◌, ◌<◌, ◌≤◌, arith, length, get_or, drop}
+use Rattle.std.specs.Prelude.{Option, Some, None, Result, Ok}
 use Rattle.octets.specs.Octets.{part}
-use Rattle.octets.specs.Checked.{Check, pass}
 use Rattle.bundle.specs.Bundle.{Part, Item, Object, items, leading, first_part, body, step_at}
 use Rattle.bundle.specs.Next.{next_of}
 use Rattle.bundle.specs.Scan.{Reaches, place_behind, sections_of, start_in, size_in, start_of, size_of, scan_of}
@@ -31,25 +26,25 @@ pub record AtObject (b : List ℕ) (place next : ℕ) (scan : Scan) (done all : 
   pub size : (c : ℕ) → c < 14 → get_or scan.size c 0 ≡ size_of one.parts c
   pub lies : (c : ℕ) → start_of one.parts c + size_of one.parts c ≤ length b
 
-pub object_reaches : (b : List ℕ) (place : ℕ) (done all : List Object) → Objects b place done all → (word next : ℕ) → pass (AnObject word next) ≡ next_of place (step_at place (drop place b)) → Reaches b next
+pub object_reaches : (b : List ℕ) (place : ℕ) (done all : List Object) → Objects b place done all → (word next : ℕ) → Ok (AnObject word next) ≡ next_of place (step_at place (drop place b)) → Reaches b next
 unfolding here
 object_reaches b place done all o word next e = let n = objects_object b place done all o word next e in record { ahead = n.ahead; left = n.left }
 
-lies_in : (b : List ℕ) (at : ℕ) (is : List Item) → here b at ≡ pass is → (c : ℕ) → start_of (leading is) c + size_of (leading is) c ≤ length b
+lies_in : (b : List ℕ) (at : ℕ) (is : List Item) → here b at ≡ Ok is → (c : ℕ) → start_of (leading is) c + size_of (leading is) c ≤ length b
 unfolding start_of size_of start_in size_in
 lies_in b at is e c = go (first_part (leading is) c) refl
   where
     go : (o : Option Part) → first_part (leading is) c ≡ o → start_in o + size_in o ≤ length b
-    go (some p) f = leading_within b at is e c p f
-    go none f = omega arith
+    go (Some p) f = leading_within b at is e c p f
+    go None f = omega arith
 
-pub object_scanned : (b : List ℕ) (place : ℕ) (done all : List Object) → Objects b place done all → (word next : ℕ) → pass (AnObject word next) ≡ next_of place (step_at place (drop place b))
+pub object_scanned : (b : List ℕ) (place : ℕ) (done all : List Object) → Objects b place done all → (word next : ℕ) → Ok (AnObject word next) ≡ next_of place (step_at place (drop place b))
     → (scan : Scan) → scan ≡ scan_of next (sections_of (items next (drop next b))) → AtObject b place next scan done all
 unfolding here sections_of scan_of
 object_scanned b place done all o word next e scan s =
     let n = objects_object b place done all o word next e in
     let ps = leading n.ahead in
-    let read : scan ≡ scan_of next ps = s ∙ ap (λ (c : Check (List Item)). scan_of next (sections_of c)) n.left in
+    let read : scan ≡ scan_of next ps = s ∙ ap (λ (c : Result (List Item) ℕ). scan_of next (sections_of c)) n.left in
     let far : scan.next ≡ place_behind next ps = ap (λ (z : Scan). z.next) read in
     let left = here_span b next n.ahead n.left in
     let rest = here_span b (place_behind next ps) (behind n.ahead) (here_behind b next n.ahead n.left) in

@@ -1,16 +1,8 @@
 -- From all objects filed and both tables placed to the sections of the package.
-use mathlib.Core.Path.{◌≡◌, refl, sym, ap, ap₂, ◌∙◌}
-use mathlib.Core.Logic.{◌⊎◌, inl, inr, ⊎_elim}
-use mathlib.Core.Bool.{Bool, true, false}
-use mathlib.Core.List.{List, [], ◌∷◌, ◌++◌, map}
-use Prim.Native.Nat.{ℕ, ◌*◌, ◌/◌, ◌%◌, ◌<◌, ◌≤◌}
-use native.Mathlib.Omega.{arith}
+use Rattle.std.proofs.Common.{◌≡◌, refl, sym, ap, ap₂, ◌∙◌, ◌⊎◌, inl, inr, ⊎_elim, Bool, true, false, List, [], ◌∷◌, ◌++◌, map, ℕ, ◌*◌, ◌/◌, ◌%◌, ◌<◌, ◌≤◌, arith, eqb, leb, length, ne_eqb, eq-eqb, ltb-true}
 use native.Mathlib.Decide.{ℕ_discrete}
-use lib.Dec.{eqb, leb}
-use lib.ListN.{length}
-use borrow.Author.Tests.{ne_eqb, eq-eqb, ltb-true}
 use Rattle.octets.specs.Lists.{joined, those, all, distinct}
-use Rattle.octets.specs.Checked.{pass, ◌>>=◌, require}
+use Rattle.octets.specs.Checked.{◌>>=◌, require}
 use Rattle.octets.proofs.Checks.{then_pass}
 use Rattle.octets.proofs.Numbers.{Bytes}
 use Rattle.bundle.specs.Bundle.{Object, bundle_of, body}
@@ -47,7 +39,7 @@ use Rattle.finish.specs.Finish.{package_of, package_in, one_object, AllFiled}
 use Rattle.finish.proofs.Objects.{Matched, none, more, objects_matched, matched_joined}
 use Rattle.finish.proofs.Indexes.{rows_few, table_fits, index_held}
 use Rattle.finish.proofs.TwoTables.{table_asks}
-use Rattle.std.specs.Prelude.{if◌then◌else◌}
+use Rattle.std.specs.Prelude.{if◌then◌else◌, Ok}
 
 -- ---- the sections of the package by code
 unfoldable pub section_of : Filing → List ℕ → List ℕ → ℕ → List ℕ
@@ -83,7 +75,7 @@ matched_used b e (o ∷ os) (i ∷ is) (more p m) =
 
 matched_offsets : (b : List ℕ) (e : Encoding) (table : List (List ℕ)) (os : List Object) (is : List Input) → Matched b e os is
     → shared_bytes table is 6 ≡ shared_joined e table b os 6
-unfolding shared_bytes shared_joined joined_by given joined
+unfolding shared_bytes shared_joined joined_by given
 matched_offsets b e table [] (i ∷ is) x'' = elim x'' [ ]
 matched_offsets b e table (o ∷ os) [] x3 = elim x3 [ ]
 matched_offsets b e table [] [] none = refl
@@ -207,8 +199,8 @@ module _ (big : Bool) (b : List ℕ) (st : InProgress) (w : List ℕ) (a : AllFi
           let ss = sections_by (section_of a.filing cu tu) in
           let g : a.bundle.big ≡ e.big = a.order ∙ sym same in
           then_pass (bundle_of b) _ a.bundle a.reads ∙ then_pass (filing_of b a.bundle) _ a.filing a.filed
-          ∙ ap (λ (l : List Section). require (all (λ (s : Section). leb (length s.bytes) 8_388_607) l) 19 >>= (λ _. pass (written a.bundle.big (package_objects a.bundle.objects l)))) sections_are
-          ∙ ap₂ (λ (x : Bool) (ps : List Object). require (all (λ (s : Section). leb (length s.bytes) 8_388_607) ss) 19 >>= (λ _. pass (written x (package_objects ps ss)))) g first
+          ∙ ap (λ (l : List Section). require (all (λ (s : Section). leb (length s.bytes) 8_388_607) l) 19 >>= (λ _. Ok (written a.bundle.big (package_objects a.bundle.objects l)))) sections_are
+          ∙ ap₂ (λ (x : Bool) (ps : List Object). require (all (λ (s : Section). leb (length s.bytes) 8_388_607) ss) 19 >>= (λ _. Ok (written x (package_objects ps ss)))) g first
 
       -- str is above the limit
       pub str_over : st.strings.over ≡ true → 8_388_607 < length (section_of a.filing cu tu 11)

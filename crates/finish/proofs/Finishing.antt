@@ -1,15 +1,10 @@
 -- The end of packing, with objects and without.
-use mathlib.Core.Path.{◌≡◌, refl, sym, ap, ◌∙◌}
-use mathlib.Core.Bool.{Bool, true, false}
-use mathlib.Core.List.{List, [], ◌∷◌}
-use Prim.Native.Nat.{ℕ, ◌/◌, ◌%◌}
-use lib.Dec.{leb}
-use lib.ListN.{length, drop}
+use Rattle.std.proofs.Common.{◌≡◌, refl, sym, ap, ◌∙◌, Bool, true, false, List, [], ◌∷◌, ℕ, ◌/◌, ◌%◌, leb, length, drop}
 use Rattle.octets.specs.Lists.{joined, those, all}
 use Rattle.std.specs.Prelude.{Ok, Err}
 use Rattle.numbers.specs.Refused.{told as answer}
 use Rattle.numbers.specs.declared.refusals.Refusal.{Refusal}
-use Rattle.octets.specs.Checked.{pass, refuse, ◌>>=◌, require, mapped}
+use Rattle.octets.specs.Checked.{◌>>=◌, require, mapped}
 use Rattle.octets.proofs.Checks.{then_pass, pass_inj}
 use Rattle.octets.proofs.Numbers.{Bytes}
 use Rattle.bundle.specs.Bundle.{Part, Object, Bundle, bundle_of, step_at, leading, objects_of}
@@ -33,30 +28,30 @@ use Rattle.finish.proofs.Words.{word_never_bad, word_encoding, word_big, word_fi
 use Rattle.finish.proofs.Filed.{section_of, first_good, cu_fits, tu_fits, tables_asks, package_one, str_over, all_ready}
 
 -- ---- without objects
-none_filed : (b : List ℕ) (k : Bundle) (f : Filing) → k.objects ≡ [] → filing_of b k ≡ pass f → f ≡ record { inputs = []; units = [] }
+none_filed : (b : List ℕ) (k : Bundle) (f : Filing) → k.objects ≡ [] → filing_of b k ≡ Ok f → f ≡ record { inputs = []; units = [] }
 unfolding filing_of filing_from
 none_filed b k f z e = sym (pass_inj (rw z at e))
 
 nothing_packed : (big : Bool) (word : ℕ) → package_sections big word (record { inputs = []; units = [] }) ≡ []
-unfolding package_sections index_bytes rows_of entries_from those kept keep_all section_list non_empty unit_bytes shared_bytes joined string_table all_used first_uses put_all str_of ◌>>=◌
+unfolding package_sections index_bytes rows_of entries_from kept keep_all section_list non_empty unit_bytes shared_bytes string_table all_used first_uses put_all str_of ◌>>=◌
 nothing_packed big word = refl
 
 written_none : (x big : Bool) (os : List Object) → x ≡ big → os ≡ []
-    → (require (all (λ (s : Section). leb (length s.bytes) 8_388_607) []) 19 >>= (λ _. pass (written x (package_objects os [])))) ≡ pass (written big [])
-unfolding all require ◌>>=◌ package_objects
+    → (require (all (λ (s : Section). leb (length s.bytes) 8_388_607) []) 19 >>= (λ _. Ok (written x (package_objects os [])))) ≡ Ok (written big [])
+unfolding require ◌>>=◌ package_objects
 written_none x big os e z = rw (e, z)
 
-pub empty_package : (big : Bool) (b : List ℕ) (st : InProgress) (w : List ℕ) (a : AllFiled big b st w) → a.bundle.objects ≡ [] → package_in b ≡ pass (written big [])
+pub empty_package : (big : Bool) (b : List ℕ) (st : InProgress) (w : List ℕ) (a : AllFiled big b st w) → a.bundle.objects ≡ [] → package_in b ≡ Ok (written big [])
 unfolding package_in package_of
 empty_package big b st w a z =
     let k = a.bundle in
     let nothing : package_sections k.big (first_word k.objects % 256) a.filing ≡ [] =
     ap (package_sections k.big (first_word k.objects % 256)) (none_filed b k a.filing z a.filed) ∙ nothing_packed k.big (first_word k.objects % 256) in
     then_pass (bundle_of b) _ k a.reads ∙ then_pass (filing_of b k) _ a.filing a.filed
-    ∙ ap (λ (l : List Section). require (all (λ (s : Section). leb (length s.bytes) 8_388_607) l) 19 >>= (λ _. pass (written k.big (package_objects k.objects l)))) nothing ∙ written_none k.big big k.objects a.order z
+    ∙ ap (λ (l : List Section). require (all (λ (s : Section). leb (length s.bytes) 8_388_607) l) 19 >>= (λ _. Ok (written k.big (package_objects k.objects l)))) nothing ∙ written_none k.big big k.objects a.order z
 
 -- ---- with objects
-first_object : (b : List ℕ) (k : Bundle) → bundle_of b ≡ pass k → (word next : ℕ) → pass (AnObject word next) ≡ next_of 4 (step_at 4 (drop 4 b))
+first_object : (b : List ℕ) (k : Bundle) → bundle_of b ≡ Ok k → (word next : ℕ) → Ok (AnObject word next) ≡ next_of 4 (step_at 4 (drop 4 b))
     → (ps : List Part) × ((os : List Object) × (k.objects ≡ record { word = word; parts = ps } ∷ os))
 first_object b k e word next q =
     let n = objects_object b 4 [] k.objects (objects_none b k e) word next q in
@@ -67,13 +62,13 @@ pub record Ending (big : Bool) (b : List ℕ) (st : InProgress) (w : List ℕ) (
   pub s : ℕ → List ℕ
   pub asks : TablesPlaceable (length b / 4) st.units (length w)
   pub whole : package_in b ≡ one_object e.big word s
-  pub over : st.strings.over ≡ true → package_in b ≡ refuse 19
+  pub over : st.strings.over ≡ true → package_in b ≡ Err 19
   -- what the placing of both tables tells
   pub told : (v : List ℕ) → TablesPlaced (length b / 4) st.units w v → BothPlaced (length b / 4) st.units w v
   pub ready : (v : List ℕ) → BothPlaced (length b / 4) st.units w v → st.strings.over ≡ false → Ready e b st v s
 
 module _ (big : Bool) (b : List ℕ) (st : InProgress) (w : List ℕ) (a : AllFiled big b st w) (ok : Bytes b) (word next : ℕ)
-    (q : pass (AnObject word next) ≡ next_of 4 (step_at 4 (drop 4 b))) where
+    (q : Ok (AnObject word next) ≡ next_of 4 (step_at 4 (drop 4 b))) where
   one : Object
   one = record { word = word; parts = (first_object b a.bundle a.reads word next q).0 }
 

@@ -1,11 +1,6 @@
 -- A table's index: the records in work, the slots placed from them, and the definition's bytes.
-use mathlib.Core.Path.{◌≡◌, refl, sym, ap, subst, ◌∙◌}
-use mathlib.Core.Bool.{Bool, true}
-use mathlib.Core.List.{List, [], ◌∷◌}
-use Prim.Native.Nat.{ℕ, ◌*◌, ◌^◌, ◌<◌, ◌≤◌}
-use native.Mathlib.Omega.{arith}
+use Rattle.std.proofs.Common.{◌≡◌, refl, sym, ap, subst, ◌∙◌, Bool, true, List, [], ◌∷◌, ℕ, ◌*◌, ◌^◌, ◌<◌, ◌≤◌, arith, length}
 use native.Mathlib.Decide.{ℕ_discrete}
-use lib.ListN.{length}
 use Rattle.octets.specs.Lists.{distinct}
 use Rattle.octets.proofs.Lists.{length_those}
 use Rattle.index.specs.Probing.{unused, slots_for, place_all, slots_of}

@@ -1,12 +1,8 @@
 -- A loop over the objects of a bundle that puts what each object gives behind what the objects before it gave.
-use mathlib.Core.Path.{◌≡◌, refl, sym, ap, ◌∙◌}
-use mathlib.Core.List.{List, [], ◌∷◌, ◌++◌, map}
-use Prim.Native.Nat.{ℕ, ◌+◌, ◌≤◌}
-use native.Mathlib.Omega.{arith}
-use lib.ListN.{length, length-append}
+use Rattle.std.proofs.Common.{◌≡◌, refl, sym, ap, ◌∙◌, List, [], ◌∷◌, ◌++◌, map, ℕ, ◌+◌, ◌≤◌, arith, length, length-append}
 use Rattle.octets.specs.Octets.{placed}
 use Rattle.octets.specs.Lists.{joined}
-use Rattle.octets.specs.Checked.{pass}
+use Rattle.std.specs.Prelude.{Ok}
 use Rattle.octets.proofs.Joined.{joined_append, joined_snoc, map-append}
 use Rattle.octets.proofs.Placed.{placed_placed, placed_none, length_placed}
 use Rattle.bundle.specs.Bundle.{Object, Bundle, bundle_of, objects_of}
@@ -20,12 +16,11 @@ pub record Joining (f : Object → List ℕ) (b : List ℕ) (all : List Object) 
   pub count : o ≡ at + length (joined (map f done))
   pub holds : d ≡ placed d₀ at (joined (map f done))
 
-pub joining_none : (f : Object → List ℕ) (b : List ℕ) (k : Bundle) (d : List ℕ) (at : ℕ) → bundle_of b ≡ pass k → Joining f b k.objects d d at at 4
-unfolding joined
+pub joining_none : (f : Object → List ℕ) (b : List ℕ) (k : Bundle) (d : List ℕ) (at : ℕ) → bundle_of b ≡ Ok k → Joining f b k.objects d d at at 4
 joining_none f b k d at e = record { done = []; passed = objects_none b k e; same = refl; count = omega arith; holds = sym (placed_none d at) }
 
-pub joining_none_done : (f : Object → List ℕ) (b : List ℕ) (k : Bundle) (d : List ℕ) (at : ℕ) (e : bundle_of b ≡ pass k) → (joining_none f b k d at e).done ≡ []
-unfolding joining_none joined
+pub joining_none_done : (f : Object → List ℕ) (b : List ℕ) (k : Bundle) (d : List ℕ) (at : ℕ) (e : bundle_of b ≡ Ok k) → (joining_none f b k d at e).done ≡ []
+unfolding joining_none
 joining_none_done f b k d at e = refl
 
 joined_more : (f : Object → List ℕ) (done : List Object) (one : Object) → joined (map f (done ++ (one ∷ []))) ≡ joined (map f done) ++ f one
@@ -66,5 +61,5 @@ module _ (f : Object → List ℕ) (b : List ℕ) (all : List Object) (d₀ d : 
   joining_end e = j.holds ∙ ap (λ (os : List Object). placed d₀ at (joined (map f os))) e
 
 -- a bundle is read in one way
-pub read_once : (b : List ℕ) (u k : Bundle) → bundle_of b ≡ pass u → bundle_of b ≡ pass k → k ≡ u
+pub read_once : (b : List ℕ) (u k : Bundle) → bundle_of b ≡ Ok u → bundle_of b ≡ Ok k → k ≡ u
 read_once b u k e f = cc

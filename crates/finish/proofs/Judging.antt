@@ -1,12 +1,7 @@
 -- Packing behind 1 and 2 is what finishing answers.
-use mathlib.Core.Path.{◌≡◌, ap, ◌∙◌}
-use mathlib.Core.Bool.{true}
-use mathlib.Core.List.{List}
-use Prim.Native.Nat.{ℕ, ◌*◌, ◌/◌}
-use lib.Dec.{leb}
-use lib.ListN.{length}
+use Rattle.std.proofs.Common.{◌≡◌, ap, ◌∙◌, true, List, ℕ, ◌*◌, ◌/◌, leb, length}
 use Rattle.numbers.specs.Limits.{work_for_word}
-use Rattle.octets.specs.Checked.{Check}
+use Rattle.std.specs.Prelude.{Result}
 use Rattle.octets.proofs.Checks.{passes}
 use Rattle.bundle.specs.Bundle.{length_good}
 use Rattle.package.specs.Pack.{judged, answered, packed}
@@ -19,4 +14,4 @@ module _ (b : List ℕ) (w : ℕ) (good : length_good 4_194_304 b ≡ true) (eno
 
   pub packed_is : (o : ℕ) → packed b w o ≡ answered (package_in b) o
   unfolding packed
-  packed_is o = ap (λ (c : Check (List ℕ)). answered c o) judged_is
+  packed_is o = ap (λ (c : Result (List ℕ) ℕ). answered c o) judged_is

@@ -1,10 +1,7 @@
 -- The objects of a bundle and the inputs that they are: one for each, with the same bytes.
-use mathlib.Core.Path.{◌≡◌, refl, ap₂, subst}
-use mathlib.Core.Bool.{Bool}
-use mathlib.Core.List.{List, [], ◌∷◌, ◌++◌, map}
-use Prim.Native.Nat.{ℕ}
+use Rattle.std.proofs.Common.{◌≡◌, refl, ap₂, subst, Bool, List, [], ◌∷◌, ◌++◌, map, ℕ}
 use Rattle.octets.specs.Lists.{joined}
-use Rattle.octets.specs.Checked.{pass}
+use Rattle.std.specs.Prelude.{Ok}
 use Rattle.octets.proofs.Checks.{bind_pass, pass_inj}
 use Rattle.octets.proofs.Numbers.{Bytes}
 use Rattle.bundle.specs.Bundle.{Object, body}
@@ -24,7 +21,7 @@ pub data Matched (b : List ℕ) (e : Encoding) : List Object → List Input → 
   more : {o : Object} {os : List Object} {i : Input} {is : List Input} → FromObject b e o i → Matched b e os is → Matched b e (o ∷ os) (i ∷ is)
 
 pub objects_matched : (b : List ℕ) (big : Bool) (first : ℕ) → Bytes b → (base : BySection ℕ) (earlier : List Filed) (os : List Object) (f : Filing)
-    → filing_from b big first base earlier os ≡ pass f → Matched b (encoding_of big first) os f.inputs
+    → filing_from b big first base earlier os ≡ Ok f → Matched b (encoding_of big first) os f.inputs
 unfolding filing_from
 objects_matched b big first h base earlier [] f q = subst (λ (g : Filing). Matched b (encoding_of big first) [] g.inputs) (pass_inj q) none
 objects_matched b big first h base earlier (o ∷ os) f q =
@@ -38,7 +35,6 @@ objects_matched b big first h base earlier (o ∷ os) f q =
 -- a section over all inputs is that over all objects
 pub matched_joined : (b : List ℕ) (e : Encoding) (os : List Object) (is : List Input) → Matched b e os is → (c : ℕ)
     → joined (map (λ i. i.bytes c) is) ≡ joined (map (λ o. body b o.parts c) os)
-unfolding joined
 matched_joined b e [] (i ∷ is) x'' c = elim x'' [ ]
 matched_joined b e (o ∷ os) [] x3 c = elim x3 [ ]
 matched_joined b e [] [] none c = refl

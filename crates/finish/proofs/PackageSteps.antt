@@ -1,10 +1,5 @@
 -- Head, object word, sections and end, one behind the other.
-use mathlib.Core.Path.{◌≡◌, ap, ◌∙◌}
-use mathlib.Core.Bool.{Bool, true}
-use mathlib.Core.List.{List, [], ◌∷◌}
-use Prim.Native.Nat.{ℕ, ◌+◌, ◌-◌, ◌<◌, ◌≤◌}
-use native.Mathlib.Omega.{arith}
-use lib.ListN.{length}
+use Rattle.std.proofs.Common.{◌≡◌, ap, ◌∙◌, Bool, true, List, [], ◌∷◌, ℕ, ◌+◌, ◌-◌, ◌<◌, ◌≤◌, arith, length}
 use Rattle.octets.specs.Octets.{placed, padded, zeros}
 use Rattle.octets.proofs.Placed.{length_placed}
 use Rattle.bundle.specs.Written.{word_bytes, head_bytes, end_bytes, written}

@@ -1,15 +1,7 @@
 -- The shared sections of objects, one behind the other. Of str_offsets the places of the strings of an object stand behind those of the objects before it.
-use mathlib.Core.Path.{◌≡◌, refl, sym, ap, ap₂, ◌∙◌, subst}
-use mathlib.Core.Bool.{Bool, true, false}
-use mathlib.Core.Logic.{⊎_elim, inl, inr, ◌⊎◌}
-use mathlib.Core.List.{List, [], ◌∷◌, ◌++◌, map, append_assoc}
-use Prim.Native.Nat.{ℕ, ◌+◌, ◌-◌, ◌≤◌}
-use native.Mathlib.Omega.{arith}
-use borrow.Author.Tests.{eqb-true, ne_eqb}
-use lib.Dec.{eqb}
+use Rattle.std.proofs.Common.{◌≡◌, refl, sym, ap, ap₂, ◌∙◌, subst, Bool, true, false, ⊎_elim, inl, inr, ◌⊎◌, List, [], ◌∷◌, ◌++◌, map, append_assoc, ℕ, ◌+◌, ◌-◌, ◌≤◌, arith, eqb-true, ne_eqb, eqb, length, take, drop, get_or, length-append, length-drop}
 use Rattle.std.specs.Prelude.{Option, Some, None}
 use Rattle.std.specs.Borrow.{Bor}
-use lib.ListN.{length, take, drop, get_or, length-append, length-drop}
 use Rattle.octets.specs.Octets.{placed}
 use Rattle.octets.specs.Lists.{joined}
 use Rattle.octets.proofs.Parts.{part_cut, cut_rest}
@@ -83,7 +75,7 @@ shared_copied e ts b c os = refl
 
 used_long : (e : Encoding) (ts : List (List ℕ)) (b : List ℕ) (c : ℕ) → Sound e → c ≡ 6 → (os : List Object) (used : List (List ℕ)) → UsedBy e b os used
     → length (joined_by true e ts b os c) ≡ length (sections_joined b os c)
-unfolding sections_joined joined_by joined UsedBy
+unfolding sections_joined joined_by UsedBy
 used_long e ts b c ok z [] used g = refl
 used_long e ts b c ok z (o ∷ os) used g =
     length-append (given true e ts b c o) (joined_by true e ts b os c) ∙ ap₂ (λ (x y : ℕ). x + y) (given_long true e ts b c ok (λ _. z) o (λ _. (g.0, g.3))) (used_long e ts b c ok z os g.1 g.4)

@@ -1,15 +1,8 @@
 -- Sizes by code: the turns of loops over them, and what they say of the sections.
-use mathlib.Core.Path.{◌≡◌, refl, sym, ap, ◌∙◌}
-use mathlib.Core.Logic.{⊎_elim}
-use mathlib.Core.Bool.{Bool, true, false}
-use mathlib.Core.List.{List, [], ◌∷◌, map}
-use Prim.Native.Nat.{ℕ, zero, suc, ◌+◌, ◌*◌, ◌-◌, ◌<◌, ◌≤◌}
-use native.Mathlib.Omega.{arith}
+use Rattle.std.proofs.Common.{◌≡◌, refl, sym, ap, ◌∙◌, ⊎_elim, Bool, true, false, List, [], ◌∷◌, map, ℕ, zero, suc, ◌+◌, ◌*◌, ◌-◌, ◌<◌, ◌≤◌, arith, leb, length, get_or, le-leb, leb-true, leb-false, eq-eqb, ne_eqb}
 use native.Mathlib.Decide.{ℕ_discrete}
-use lib.Dec.{leb}
 use Rattle.std.specs.List.{list_all}
-use lib.ListN.{length, get_or}
-use borrow.Author.Tests.{le-leb, lt-leb, leb-true, leb-false, eq-eqb, ne_eqb}
+use borrow.Author.Tests.{lt-leb}
 use Rattle.octets.specs.Lists.{all, those, sum}
 use Rattle.octets.proofs.Checks.{known, true_false}
 use Rattle.octets.proofs.Lists.{all_cons, all_stops, those_keeps, those_skips}
@@ -22,7 +15,6 @@ use Rattle.finish.specs.Sections.{sections_from, not_empty, sections_by, sizes_g
 
 -- a test of all, as the library says it
 pub all_listed : {A : Type 0} (p : A → Bool) (xs : List A) → list_all p xs ≡ all p xs
-unfolding all
 all_listed p [] = refl
 all_listed p (x ∷ xs) = go (p x) refl (all_listed p xs)
   where
@@ -71,7 +63,7 @@ length_most sizes l e = omega (arith, framed_small sizes 1 13 l e (omega arith))
 
 -- one that is above the limit
 sizes_bad : (sizes : List ℕ) → sizes_good sizes ≡ false → (d : ℕ) × (d < length sizes) × (8_388_607 < get_or sizes d 0)
-unfolding sizes_good all
+unfolding sizes_good
 sizes_bad [] e = absurd (true_false refl e)
 sizes_bad (n ∷ ns) e = go (sizes_bad ns)
   where
@@ -102,13 +94,13 @@ pub keep_turn : (bytes : ℕ → List ℕ) (c : ℕ) → c < 14 → (length (byt
 keep_turn bytes c h f = ap (λ (n : ℕ). those not_empty (sections_from bytes c n)) (one_less c h) ∙ sections_keep bytes c (14 - (c + 1)) f
 
 pub sections_over : (bytes : ℕ → List ℕ) (c : ℕ) → 14 ≤ c → those not_empty (sections_from bytes c (14 - c)) ≡ []
-unfolding sections_from those
+unfolding sections_from
 sections_over bytes c h = let e : 14 - c ≡ 0 = omega arith in rw e
 
 -- lengths
 framed_sections : (sizes : List ℕ) (bytes : ℕ → List ℕ) (c n : ℕ) → ((d : ℕ) → c ≤ d → d < c + n → get_or sizes d 0 ≡ length (bytes d))
     → framed_from sizes c n ≡ sum (map section_size (those not_empty (sections_from bytes c n)))
-unfolding framed_from sections_from those sum section_size
+unfolding framed_from sections_from sum section_size
 framed_sections sizes bytes c zero h = refl
 framed_sections sizes bytes c (suc n) h =
     let here = h c (omega arith) (omega arith) in
@@ -127,7 +119,7 @@ length_is sizes bytes big word s =
 -- 19
 good_sections : (bytes : ℕ → List ℕ) (c n : ℕ) → ((d : ℕ) → c ≤ d → d < c + n → length (bytes d) ≤ 8_388_607)
     → all (λ s. leb (length s.bytes) 8_388_607) (those not_empty (sections_from bytes c n)) ≡ true
-unfolding sections_from those all
+unfolding sections_from
 good_sections bytes c zero h = refl
 good_sections bytes c (suc n) h =
     let rest = good_sections bytes (c + 1) n (λ d l m. h d (omega arith) (omega arith)) in

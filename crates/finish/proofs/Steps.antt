@@ -1,10 +1,5 @@
 -- Steps of the functions that write: an index, a section with its word, the empty package.
-use mathlib.Core.Path.{◌≡◌, sym, ap, ap₂, ◌∙◌}
-use mathlib.Core.Bool.{Bool}
-use mathlib.Core.List.{List, [], ◌++◌, append-nil}
-use Prim.Native.Nat.{ℕ, ◌+◌, ◌*◌, ◌-◌, ◌<◌, ◌≤◌}
-use native.Mathlib.Omega.{arith}
-use lib.ListN.{length, get_or}
+use Rattle.std.proofs.Common.{◌≡◌, sym, ap, ap₂, ◌∙◌, Bool, List, [], ◌++◌, append-nil, ℕ, ◌+◌, ◌*◌, ◌-◌, ◌<◌, ◌≤◌, arith, length, get_or}
 use Rattle.octets.specs.Octets.{placed, padded, zeros}
 use Rattle.octets.specs.Lists.{joined, sum}
 use Rattle.octets.proofs.Placed.{placed_none}
@@ -84,7 +79,7 @@ unfolding sum
 empty_length big = written_size big []
 
 pub empty_made : (big : Bool) (d x y : List ℕ) (n : ℕ) → d ≡ zeros n → x ≡ placed d 0 (head_bytes big) → y ≡ placed x 4 (end_bytes 4) → y ≡ padded (written big []) (n - length (written big []))
-unfolding written joined
+unfolding written
 empty_made big d x y n e f g =
     let head : x ≡ padded (head_bytes big) (n - 4) = f ∙ head_put d n big e in
     let left : n - 4 - 4 ≡ n - length (written big []) = omega (arith, empty_length big) in

@@ -1,9 +1,5 @@
 -- Both tables placed one after the other.
-use mathlib.Core.Path.{◌≡◌, refl, sym, subst, ◌∙◌}
-use mathlib.Core.List.{List}
-use Prim.Native.Nat.{ℕ, ◌≤◌}
-use native.Mathlib.Omega.{arith}
-use lib.ListN.{length}
+use Rattle.std.proofs.Common.{◌≡◌, refl, sym, subst, ◌∙◌, List, ℕ, ◌≤◌, arith, length}
 use Rattle.numbers.specs.Tables.{compilation_table, type_table}
 use Rattle.index.specs.Probing.{slots_for}
 use Rattle.kept.specs.Regions.{records_region, slots_region, region}

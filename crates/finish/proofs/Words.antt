@@ -1,7 +1,5 @@
 -- An object word that 4 lets pass, as the code reads it.
-use mathlib.Core.Path.{◌≡◌, sym, ap, ◌∙◌}
-use mathlib.Core.Bool.{true}
-use lib.Dec.{eqb}
+use Rattle.std.proofs.Common.{◌≡◌, sym, ap, ◌∙◌, true, eqb}
 use Rattle.std.specs.Prelude.{Ok, Err}
 use Rattle.numbers.specs.Refused.{told}
 use Rattle.numbers.specs.declared.refusals.Refusal.{Refusal}

@@ -1,12 +1,12 @@
 -- The rest of `judged` of `package/specs/Pack.antt`, from a bundle whose length and work are good; and what the packer has by then.
-use Rattle.std.specs.Prelude.{◌≡◌, Bool, Result, List, [], ◌∷◌, map, ℕ, ◌/◌, ◌%◌, ◌≤◌, length, ◌==◌, nat_le}
+use Rattle.std.specs.Prelude.{◌≡◌, Bool, Result, List, [], ◌∷◌, map, ℕ, ◌/◌, ◌%◌, ◌≤◌, length, ◌==◌, nat_le, Ok}
 use Rattle.numbers.specs.Tables.{dwarf5}
 use Rattle.numbers.specs.Limits.{section_limit}
 use Rattle.numbers.specs.Sections.{first_shared, last_shared}
 use Rattle.numbers.specs.Refusals.{section_too_long}
 use Rattle.octets.specs.Octets.{zeros}
 use Rattle.octets.specs.Lists.{joined, all}
-use Rattle.octets.specs.Checked.{Check, pass, ◌>>=◌, require}
+use Rattle.octets.specs.Checked.{◌>>=◌, require}
 use Rattle.bundle.specs.Bundle.{Bundle, bundle_of}
 use Rattle.bundle.specs.Written.{written}
 use Rattle.strings.specs.Kept.{Kept}
@@ -25,33 +25,33 @@ use Rattle.finish.specs.declared.writing.Package.{Package}
 
 -- ---- the package
 -- 19
-unfoldable pub package_of : Bundle → Filing → Check (List ℕ)
+unfoldable pub package_of : Bundle → Filing → Result (List ℕ) ℕ
 package_of k f = do
   let ss = package_sections k.big (first_word k.objects % 256) f
   _ ← require (all (λ s. nat_le (length s.bytes) section_limit) ss) section_too_long
-  pass (written k.big (package_objects k.objects ss))
+  Ok (written k.big (package_objects k.objects ss))
 
 -- of a bundle: `judged` behind 1 and 2
-unfoldable pub package_in : List ℕ → Check (List ℕ)
+unfoldable pub package_in : List ℕ → Result (List ℕ) ℕ
 package_in b = do
   k ← bundle_of b
   f ← filing_of b k
   package_of k f
 
 -- of one object with these sections by code
-unfoldable pub one_object : Bool → ℕ → (ℕ → List ℕ) → Check (List ℕ)
+unfoldable pub one_object : Bool → ℕ → (ℕ → List ℕ) → Result (List ℕ) ℕ
 one_object big word s = do
   _ ← require (all (λ x. nat_le (length x.bytes) section_limit) (sections_by s)) section_too_long
-  pass (written big (record { word = word; sections = sections_by s } ∷ []))
+  Ok (written big (record { word = word; sections = sections_by s } ∷ []))
 
 -- ---- what the packer has
 -- all objects are filed
 pub record AllFiled (big : Bool) (b : List ℕ) (st : InProgress) (w : List ℕ) : Type 0 where
   pub bundle : Bundle
-  pub reads : bundle_of b ≡ pass bundle
+  pub reads : bundle_of b ≡ Ok bundle
   pub order : bundle.big ≡ big
   pub filing : Filing
-  pub filed : filing_of b bundle ≡ pass filing
+  pub filed : filing_of b bundle ≡ Ok filing
   pub bases : BySection ℕ
   pub based : (c : ℕ) → first_shared ≤ c → c ≤ last_shared → bases c ≡ length (joined (map (λ i. i.bytes c) filing.inputs))
   pub held : Held (first_word bundle.objects % 256 == dwarf5) b (length b / 4) (length b) w st bases filing.units

@@ -1,10 +1,9 @@
 -- The bytes of a shared section over all objects.
-use Rattle.std.specs.Prelude.{◌≡◌, Bool, true, false, Option, Some, None, List, [], ◌∷◌, ◌++◌, map, ℕ, zero, suc, ◌+◌, ◌<◌, ◌≤◌, length, take, drop, ◌==◌, if◌then◌else◌}
+use Rattle.std.specs.Prelude.{◌≡◌, Bool, true, false, Option, Some, None, List, [], ◌∷◌, ◌++◌, map, ℕ, zero, suc, ◌+◌, ◌<◌, ◌≤◌, length, take, drop, ◌==◌, if◌then◌else◌, Ok}
 use Rattle.std.specs.Borrow.{Bor}
 use Rattle.numbers.specs.Sections.{str_offsets_code, str_code, section_codes}
 use Rattle.octets.specs.Lists.{joined}
 use Rattle.octets.specs.Octets.{placed}
-use Rattle.octets.specs.Checked.{pass}
 use Rattle.bundle.specs.Bundle.{Object, Bundle, bundle_of, body}
 use Rattle.bundle.specs.Encoding.{Encoding}
 use Rattle.strings.specs.Strings.{first_uses}
@@ -50,7 +49,7 @@ shared_joined e table b os c = joined_by (c == str_offsets_code) e table b os c
 -- 8 and 9 let each piece of a str_offsets pass, and its entries name these strings; there is no piece of an empty one
 pub record EntriesGood (e : Encoding) (offsets str : List ℕ) (used : List (List ℕ)) : Type 0 where
   pub headed : Headed e offsets (cut e offsets)
-  pub strings : strings_of_all e str (cut e offsets) ≡ pass used
+  pub strings : strings_of_all e str (cut e offsets) ≡ Ok used
 
 -- the strings that the entries of all objects name, those of one object behind those of the objects before it
 unfoldable pub UsedBy : Encoding → List ℕ → List Object → List (List ℕ) → Type 0
@@ -76,7 +75,7 @@ remaps None code = false
 -- a bundle that can be read, and room for the section at a place of n bytes; where it is remapped the strings' places too
 pub record SharedJoinable (e : Encoding) (b : List ℕ) (t : Option (Bor (List ℕ))) (code n at : ℕ) : Type 0 where
   pub bundle : Bundle
-  pub reads : bundle_of b ≡ pass bundle
+  pub reads : bundle_of b ≡ Ok bundle
   pub known : code < section_codes
   pub room : at + length (sections_joined b bundle.objects code) ≤ n
   pub used : List (List ℕ)
@@ -85,7 +84,7 @@ pub record SharedJoinable (e : Encoding) (b : List ℕ) (t : Option (Bor (List �
 -- it is put there, whatever these strings are; d is the output before, x after
 abbrev pub SharedPut : (e : Encoding) (b : List ℕ) (t : Option (Bor (List ℕ))) (code at : ℕ) (d x : List ℕ) → Type 0
 SharedPut e b t code at d x =
-    (k : Bundle) (used : List (List ℕ)) → bundle_of b ≡ pass k → (remaps t code ≡ true → StringsPlaced e b (table_lent t) k.objects used)
+    (k : Bundle) (used : List (List ℕ)) → bundle_of b ≡ Ok k → (remaps t code ≡ true → StringsPlaced e b (table_lent t) k.objects used)
     → x ≡ placed d at (joined_by (remaps t code) e (first_uses used) b k.objects code)
 
 -- ---- one object's section s put at a place of an output of n bytes, with numbers ns for its entries where it is remapped

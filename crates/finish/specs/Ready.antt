@@ -1,8 +1,7 @@
 -- What the packer has when all objects are filed and both tables are placed, towards the sections of the package by code.
-use Rattle.std.specs.Prelude.{◌≡◌, Bool, true, false, List, [], ◌∷◌, ◌++◌, ℕ, ◌+◌, ◌*◌, ◌-◌, ◌/◌, ◌<◌, ◌≤◌, length, set, ◌==◌, slice_index, if◌then◌else◌}
+use Rattle.std.specs.Prelude.{◌≡◌, Bool, true, false, List, [], ◌∷◌, ◌++◌, ℕ, ◌+◌, ◌*◌, ◌-◌, ◌/◌, ◌<◌, ◌≤◌, length, set, ◌==◌, slice_index, if◌then◌else◌, Ok}
 use Rattle.numbers.specs.Sections.{info_code, types_code, str_offsets_code, str_code, cu_index_code, tu_index_code, section_codes, first_shared, last_shared}
 use Rattle.octets.specs.Octets.{placed, padded, zeros}
-use Rattle.octets.specs.Checked.{pass}
 use Rattle.numbers.specs.Limits.{bundle_limit, work_for_word, section_limit}
 use Rattle.numbers.specs.Tables.{compilation_table, type_table}
 use Rattle.bundle.specs.Bundle.{Bundle, bundle_of}
@@ -93,7 +92,7 @@ pub record IndexWritable (f : IndexForm) (words n : ℕ) (w : List ℕ) (long at
 -- s says what the sections are
 pub record Ready (e : ObjectEncoding) (b : List ℕ) (st : InProgress) (w : List ℕ) (s : ℕ → List ℕ) : Type 0 where
   pub bundle : Bundle
-  pub reads : bundle_of b ≡ pass bundle
+  pub reads : bundle_of b ≡ Ok bundle
   pub limit : length b ≤ bundle_limit
   pub whole : length b ≡ 4 * (length b / 4)
   pub room : work_for_word * (length b / 4) ≤ length w

@@ -1,7 +1,6 @@
 // The end of packing: 19, 18, and the package.
-ghost use Rattle.std.specs.Prelude.{◌≡◌, [], length};
+ghost use Rattle.std.specs.Prelude.{◌≡◌, [], length, Result, Ok, Err};
 ghost use Rattle.octets.specs.Octets.{zeros};
-ghost use Rattle.octets.specs.Checked.{pass};
 ghost use Rattle.answers.specs.Answers.{answered, output_of};
 ghost use Rattle.answers.specs.Outcome.{outcome_of, outcome_as};
 ghost use Rattle.bundle.specs.Written.{written};
@@ -20,8 +19,8 @@ const EMPTY: usize = 8;
 // That the output is zero is asked here and of what calls this, and is in no type: the first write ends it.
 fn finish_empty(big: bool, out: &mut [u8]) -> Result<usize, Unwritten>
     requires { out.old ≡ zeros (length out.old) }
-    ensures answer { outcome_as result ≡ outcome_of (answered (pass (written big [])) (length out.old)) }
-    ensures output { out.new ≡ output_of (answered (pass (written big [])) (length out.old)) (length out.old) }
+    ensures answer { outcome_as result ≡ outcome_of (answered (Ok (written big [])) (length out.old)) }
+    ensures output { out.new ≡ output_of (answered (Ok (written big [])) (length out.old)) (length out.old) }
 {
     if out.len() < EMPTY {
         return Err(Unwritten::Short(EMPTY));

@@ -1,7 +1,6 @@
 -- What is read of a unit's cells is what it contributes.
-use mathlib.Core.Path.{◌≡◌, refl, ap, ◌∙◌}
-use mathlib.Core.Option.{Option, some, none}
-use Prim.Native.Nat.{ℕ}
+use Rattle.std.proofs.Common.{◌≡◌, refl, ap, ◌∙◌, ℕ}
+use Rattle.std.specs.Prelude.{Option, Some, None}
 use Rattle.index.specs.Index.{Contribution}
 use Rattle.index.specs.Rows.{BySection, is_some}
 use Rattle.index.specs.Written.{offset_of, size_of}
@@ -12,18 +11,18 @@ use Rattle.std.specs.Option.{is_some as there}
 
 pub there_found : (o : Option Contribution) → there (cell_found o) ≡ is_some o
 unfolding cell_found is_some
-there_found (some x) = refl
-there_found none = refl
+there_found (Some x) = refl
+there_found None = refl
 
 offset_found : (o : Option Contribution) → (stated (cell_found o)).offset ≡ offset_of o
 unfolding cell_found offset_of
-offset_found (some x) = refl
-offset_found none = refl
+offset_found (Some x) = refl
+offset_found None = refl
 
 size_found : (o : Option Contribution) → (stated (cell_found o)).size ≡ size_of o
 unfolding cell_found size_of
-size_found (some x) = refl
-size_found none = refl
+size_found (Some x) = refl
+size_found None = refl
 
 module _ (k : Contributions) (f : BySection (Option Contribution)) (a : ContributionsAre k f) (c : ℕ) where
   pub has_is : has_cell k c ≡ is_some (f c)

@@ -1,13 +1,6 @@
 -- Laws of the tests that an index is well formed, one for each turn of a loop.
-use mathlib.Core.Path.{◌≡◌, sym}
-use mathlib.Core.Bool.{true, false, ◌&&◌}
-use mathlib.Core.List.{List}
-use Prim.Native.Nat.{ℕ, suc, ◌+◌, ◌<◌, ◌≤◌}
-use native.Mathlib.Numerals.{add-one}
-use lib.Dec.{leb}
-use lib.ListN.{length, drop, get_or, drop_of_length-le}
-use lib.Seq.{drop-cons}
-use borrow.Author.Tests.{le-leb, lt-leb}
+use Rattle.std.proofs.Common.{◌≡◌, sym, true, false, ◌&&◌, List, ℕ, suc, ◌+◌, ◌<◌, ◌≤◌, add-one, leb, length, drop, get_or, drop_of_length-le, drop-cons, le-leb}
+use borrow.Author.Tests.{lt-leb}
 use Rattle.octets.specs.Lists.{has, distinct, zero_together}
 use Rattle.octets.proofs.Checks.{not_right}
 use Rattle.octets.proofs.Elements.{distinct_cons, distinct_stops}

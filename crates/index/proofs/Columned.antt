@@ -1,13 +1,7 @@
 -- Turns of the loops over a row's cells, over the values that the loops have.
-use mathlib.Core.Path.{◌≡◌, refl, sym, ap, ◌∙◌}
-use mathlib.Core.Bool.{Bool, true, false, ◌||◌}
-use mathlib.Core.List.{List, [], ◌∷◌}
-use mathlib.Core.Logic.{⊎_elim}
-use mathlib.Core.Option.{Option, some}
-use Prim.Native.Nat.{ℕ, ◌+◌, ◌<◌, ◌≤◌}
+use Rattle.std.proofs.Common.{◌≡◌, refl, sym, ap, ◌∙◌, Bool, true, false, ◌||◌, List, [], ◌∷◌, ⊎_elim, ℕ, ◌+◌, ◌<◌, ◌≤◌, eqb, get_or}
+use Rattle.std.specs.Prelude.{Option, Some}
 use native.Mathlib.Decide.{ℕ_discrete}
-use lib.Dec.{eqb}
-use lib.ListN.{get_or}
 use Rattle.octets.specs.Lists.{all, has}
 use Rattle.octets.proofs.Checks.{known}
 use Rattle.octets.proofs.Lists.{all_cons, all_stops}
@@ -17,7 +11,6 @@ use Rattle.index.specs.Rows.{BySection, needed_codes, is_some, cell_is, part_goo
 use Rattle.std.specs.Option.{is_some as there}
 use Rattle.index.specs.Cells.{cell_found}
 use Rattle.index.specs.Contributed.{Cell, by_code, good_cell, with_cell, chosen, ContributionsAre, cell_held, has_cell, good_held}
-use Rattle.std.specs.Prelude.{Some}
 use Rattle.index.specs.declared.judging.Contributions.{Contributions}
 use Rattle.index.proofs.CellsHeld.{there_found}
 use Rattle.index.proofs.Judgements.{ahead, ahead_start, ahead_on, ahead_stops, ahead_end, good_cell_law}
@@ -33,7 +26,6 @@ has_later : (x n : ℕ) (ns : List ℕ) → has ns x ≡ true → has (n ∷ ns)
 has_later x n ns h = elim (ℕ_discrete x n) [ yes e ↦ has_cons x n ns e | no e ↦ has_skips x n ns e ∙ h ]
 
 all_same : (f g : ℕ → Bool) (xs : List ℕ) → ((c : ℕ) → has xs c ≡ true → f c ≡ g c) → all f xs ≡ all g xs
-unfolding all
 all_same f g [] e = refl
 all_same f g (x ∷ xs) e =
     let same = e x (has_cons x x xs refl) in
@@ -89,7 +81,7 @@ module _ (i : Index) (row c : ℕ) (lengths : List ℕ) (cell : Cell) (is : cell
 
 -- a whole section as a contribution
 unfoldable pub whole_cell : List ℕ → BySection (Option Contribution)
-whole_cell lengths c = some (record { offset = 0; size = get_or lengths c 0 })
+whole_cell lengths c = Some (record { offset = 0; size = get_or lengths c 0 })
 
 pub whole_turn : (c : ℕ) (lengths : List ℕ) → 3 ≤ c → c < 11 → (k r : Contributions) → ContributionsAre k (up_to c (chosen (by_code lengths) (whole_cell lengths)))
     → r ≡ with_cell k c (get_or lengths c 0) (Some (record { offset = 0; size = get_or lengths c 0 })) → ContributionsAre r (up_to (c + 1) (chosen (by_code lengths) (whole_cell lengths)))

@@ -1,26 +1,18 @@
 -- What is known of a unit's contributions, from a row or whole: each lies in its section, which is shared and not empty.
-use mathlib.Core.Path.{◌≡◌, refl, sym, ap, ◌∙◌, subst}
-use mathlib.Core.Logic.{◌⊎◌, inl, inr, ⊎_elim}
-use mathlib.Core.Bool.{Bool, true, false, not, ◌&&◌, ◌||◌}
-use mathlib.Core.List.{List, [], ◌∷◌}
-use mathlib.Core.Option.{Option, some, none}
-use Prim.Native.Nat.{ℕ, ◌+◌, ◌%◌, ◌≤◌}
-use native.Mathlib.Omega.{arith}
-use lib.Dec.{eqb, leb}
-use borrow.Author.Tests.{eqb-true, eqb-false, eq-eqb, leb-true, not-true}
+use Rattle.std.proofs.Common.{◌≡◌, refl, sym, ap, ◌∙◌, subst, ◌⊎◌, inl, inr, ⊎_elim, Bool, true, false, not, ◌&&◌, ◌||◌, List, [], ◌∷◌, ℕ, ◌+◌, ◌%◌, ◌≤◌, arith, eqb, leb, eqb-true, eq-eqb, leb-true}
+use Rattle.std.specs.Prelude.{Option, if◌then◌else◌, Some, None, Ok}
+use borrow.Author.Tests.{eqb-false, not-true}
 use Rattle.octets.specs.Lists.{all, any, those, has}
-use Rattle.octets.specs.Checked.{pass}
 use Rattle.octets.proofs.Checks.{bind_pass, require_pass, pass_inj, known, true_false, and_left, and_right, or_cases}
 use Rattle.octets.proofs.Lists.{all_head, all_tail, any_cases, any_stops, any_more, those_keeps, those_skips}
 use Rattle.octets.proofs.Options.{some_inj, some_none}
 use Rattle.index.specs.Index.{Index, Contribution, cell_of}
 use Rattle.index.specs.Probing.{probe}
 use Rattle.index.specs.Rows.{BySection, shared, needed_codes, is_some, row_of, cell_is, own_place, part_good, row_contributions, whole_contributions}
-use Rattle.std.specs.Prelude.{if◌then◌else◌}
 
 -- ---- lists of codes
 pub all_has : (f : ℕ → Bool) (xs : List ℕ) (c : ℕ) → all f xs ≡ true → has xs c ≡ true → f c ≡ true
-unfolding has any
+unfolding has
 all_has f [] c e h = absurd (true_false h refl)
 all_has f (x ∷ xs) c e h = ⊎_elim
     (λ (p : eqb c x ≡ true). ap f (eqb-true c x p) ∙ all_head f x xs e)
@@ -28,7 +20,7 @@ all_has f (x ∷ xs) c e h = ⊎_elim
     (any_cases (eqb c) x xs h)
 
 pub has_those : (f : ℕ → Bool) (xs : List ℕ) (c : ℕ) → has (those f xs) c ≡ true → (has xs c ≡ true) × (f c ≡ true)
-unfolding has any those
+unfolding has
 has_those f [] c h = absurd (true_false h refl)
 has_those f (x ∷ xs) c h = ⊎_elim
     (λ (p : f x ≡ true). ⊎_elim
@@ -58,7 +50,7 @@ pub record Contributed (width : ℕ) (lengths : BySection ℕ) (c : ℕ) (k : Co
   pub within : k.offset + k.size ≤ lengths c
   pub parts : Whole lengths c k ⊎ Stepped width c k
 
-pub whole_contributed : (width : ℕ) (lengths : BySection ℕ) (c : ℕ) (k : Contribution) → whole_contributions lengths c ≡ some k
+pub whole_contributed : (width : ℕ) (lengths : BySection ℕ) (c : ℕ) (k : Contribution) → whole_contributions lengths c ≡ Some k
     → Contributed width lengths c k × Whole lengths c k
 unfolding whole_contributions
 whole_contributed width lengths c k q = ⊎_elim
@@ -82,12 +74,12 @@ part_good_law width lengths c k p q =
     let divides = not (eqb c 6) || (eqb (k.offset % width) 0 && eqb (k.size % width) 0) in
     record { is_shared = n.0; some = n.1; within = leb-true _ _ (and_left inside divides q); parts = inr (stepped width c k (and_right inside divides q)) }
 
-cell_is_law : (f : Contribution → Bool) (o : Option Contribution) (k : Contribution) → o ≡ some k → cell_is f o ≡ true → f k ≡ true
+cell_is_law : (f : Contribution → Bool) (o : Option Contribution) (k : Contribution) → o ≡ Some k → cell_is f o ≡ true → f k ≡ true
 unfolding cell_is
 cell_is_law f o k e q = rw e at q
 
 pub row_contributed : (i : Index) (width : ℕ) (lengths : BySection ℕ) (x home at size : ℕ) (g : BySection (Option Contribution))
-    → row_contributions i width lengths x home at size ≡ pass g → (c : ℕ) (k : Contribution) → g c ≡ some k → Contributed width lengths c k
+    → row_contributions i width lengths x home at size ≡ Ok g → (c : ℕ) (k : Contribution) → g c ≡ Some k → Contributed width lengths c k
 unfolding row_contributions
 row_contributed i width lengths x home at size g q c k e =
     let row = bind_pass (row_of i (probe i x)) _ g q in
@@ -97,7 +89,7 @@ row_contributed i width lengths x home at size g q c k e =
     from row.0 steps.0 (ap (λ (h : BySection (Option Contribution)). h c) (pass_inj steps.1) ∙ e)
   where
     from : (row : ℕ) → all (λ s. cell_is (part_good width lengths s) (cell_of i row s)) (needed_codes lengths) ≡ true
-        → (if has (needed_codes lengths) c then cell_of i row c else none) ≡ some k → Contributed width lengths c k
+        → (if has (needed_codes lengths) c then cell_of i row c else None) ≡ Some k → Contributed width lengths c k
     from row a h = ⊎_elim
         (λ (p : has (needed_codes lengths) c ≡ true). part_good_law width lengths c k p (cell_is_law (part_good width lengths c) (cell_of i row c) k (rw p at h)
         (all_has (λ s. cell_is (part_good width lengths s) (cell_of i row s)) (needed_codes lengths) c a p)))
@@ -106,8 +98,8 @@ row_contributed i width lengths x home at size g q c k e =
 
 -- what a row contributes are its own cells
 pub row_cells : (i : Index) (width : ℕ) (lengths : BySection ℕ) (x home at size : ℕ) (g : BySection (Option Contribution))
-    → row_contributions i width lengths x home at size ≡ pass g
-    → (row : ℕ) × (row_of i (probe i x) ≡ pass row) × ((c : ℕ) (k : Contribution) → g c ≡ some k → cell_of i row c ≡ some k)
+    → row_contributions i width lengths x home at size ≡ Ok g
+    → (row : ℕ) × (row_of i (probe i x) ≡ Ok row) × ((c : ℕ) (k : Contribution) → g c ≡ Some k → cell_of i row c ≡ Some k)
 unfolding row_contributions
 row_cells i width lengths x home at size g q =
     let row = bind_pass (row_of i (probe i x)) _ g q in
@@ -116,7 +108,7 @@ row_cells i width lengths x home at size g q =
     let steps = require_pass (all (λ s. cell_is (part_good width lengths s) (cell_of i row.0 s)) (needed_codes lengths)) 16 _ g own.1 in
     (row.0, row.1, λ c k e. from row.0 c k (ap (λ (h : BySection (Option Contribution)). h c) (pass_inj steps.1) ∙ e))
   where
-    from : (row c : ℕ) (k : Contribution) → (if has (needed_codes lengths) c then cell_of i row c else none) ≡ some k → cell_of i row c ≡ some k
+    from : (row c : ℕ) (k : Contribution) → (if has (needed_codes lengths) c then cell_of i row c else None) ≡ Some k → cell_of i row c ≡ Some k
     from row c k h = ⊎_elim
         (λ (p : has (needed_codes lengths) c ≡ true). rw p at h)
         (λ (p : has (needed_codes lengths) c ≡ false). some_none (sym (rw p at h)))

@@ -1,14 +1,6 @@
 -- Where a search ends: the slot, its row number and the looks.
-use mathlib.Core.Path.{◌≡◌, refl, sym, ap, ◌∙◌}
-use mathlib.Core.Bool.{Bool, true, false, ◌&&◌}
-use mathlib.Core.List.{List, [], ◌∷◌}
-use Prim.Native.Nat.{ℕ, zero, suc, ◌+◌, ◌%◌, ◌<◌, ◌≤◌}
-use native.Mathlib.Nat.{not-suc-le-zero, le_of_suc-le-suc}
-use native.Mathlib.Omega.{arith}
+use Rattle.std.proofs.Common.{◌≡◌, refl, sym, ap, ◌∙◌, Bool, true, false, ◌&&◌, List, [], ◌∷◌, ℕ, zero, suc, ◌+◌, ◌%◌, ◌<◌, ◌≤◌, not-suc-le-zero, le_of_suc-le-suc, arith, leb, length, get_or, leb-true}
 use native.Mathlib.Decide.{ℕ_discrete}
-use lib.Dec.{leb}
-use lib.ListN.{length, get_or}
-use borrow.Author.Tests.{leb-true}
 use Rattle.octets.specs.Lists.{zero_together}
 use Rattle.octets.proofs.Checks.{and_left, true_false}
 use Rattle.index.specs.Index.{Index, slots_good}

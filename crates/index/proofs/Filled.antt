@@ -1,17 +1,8 @@
 -- Contributions filled in code by code.
 -- ---- which codes are needed
-use mathlib.Core.Path.{◌≡◌, refl, sym, ap, ◌∙◌}
-use mathlib.Core.Bool.{Bool, true, false, not, ◌&&◌}
-use mathlib.Core.List.{List, [], ◌∷◌}
-use mathlib.Core.Logic.{⊎_elim}
-use mathlib.Core.Option.{Option, some, none}
-use Prim.Native.Nat.{ℕ, zero, suc, ◌+◌, ◌-◌, ◌<◌, ◌≤◌}
-use native.Mathlib.Omega.{arith}
+use Rattle.std.proofs.Common.{◌≡◌, refl, sym, ap, ◌∙◌, Bool, true, false, not, ◌&&◌, List, [], ◌∷◌, ⊎_elim, ℕ, zero, suc, ◌+◌, ◌-◌, ◌<◌, ◌≤◌, arith, eqb, ltb, get_or, set, replicate, length-set, get_or-set_same, get_or-set_other, eq-eqb, ne_eqb, lt-ltb, le-ltb}
+use Rattle.std.specs.Prelude.{Option, None, if◌then◌else◌, Some}
 use native.Mathlib.Decide.{ℕ_discrete, dec_le}
-use lib.Dec.{eqb, ltb}
-use lib.ListN.{get_or, set, replicate, length-set}
-use lib.Seq.{get_or-set_same, get_or-set_other}
-use borrow.Author.Tests.{eq-eqb, ne_eqb, lt-ltb, le-ltb}
 use Rattle.octets.specs.Lists.{those, has, any}
 use Rattle.octets.proofs.Checks.{known, not_left, not_right}
 use Rattle.octets.proofs.Lists.{those_keeps, those_skips}
@@ -20,12 +11,11 @@ use Rattle.index.specs.Index.{Contribution}
 use Rattle.index.specs.Rows.{BySection, shared, needed_codes, whole_contributions}
 use Rattle.index.specs.Cells.{cell_found}
 use Rattle.index.specs.Contributed.{Cell, ContributionsAre, with_cell, chosen}
-use Rattle.std.specs.Prelude.{None, if◌then◌else◌}
 use Rattle.index.specs.declared.judging.Contributions.{Contributions}
 use Rattle.index.proofs.Judgements.{shared_at}
 
 has_those : (p : ℕ → Bool) (xs : List ℕ) (s : ℕ) → has (those p xs) s ≡ (has xs s && p s)
-unfolding those has any
+unfolding has
 has_those p [] s = refl
 has_those p (x ∷ xs) s = ⊎_elim (λ e. keeps e (has_those p xs s)) (λ e. skips e (has_those p xs s)) (known (p x))
   where
@@ -66,7 +56,7 @@ nothing_at zero c = refl
 nothing_at (suc n) zero = refl
 nothing_at (suc n) (suc c) = nothing_at n c
 
-pub nothing_held : ContributionsAre (record { cells = replicate 14 none_there }) (λ c. none)
+pub nothing_held : ContributionsAre (record { cells = replicate 14 none_there }) (λ c. None)
 unfolding cell_found
 nothing_held = record { cell = λ c. nothing_at 14 c; whole = refl }
 
@@ -81,13 +71,13 @@ with_full k c n cell h = rw (with_cell, ne_eqb n 0 h)
 
 -- ---- filled up to a code
 unfoldable pub up_to : ℕ → BySection (Option Contribution) → BySection (Option Contribution)
-up_to c f d = if ltb d c then f d else none
+up_to c f d = if ltb d c then f d else None
 
 up_to_below : (c : ℕ) (f : BySection (Option Contribution)) (d : ℕ) → d < c → up_to c f d ≡ f d
 unfolding up_to
 up_to_below c f d h = rw (up_to, lt-ltb d c h)
 
-up_to_above : (c : ℕ) (f : BySection (Option Contribution)) (d : ℕ) → c ≤ d → up_to c f d ≡ none
+up_to_above : (c : ℕ) (f : BySection (Option Contribution)) (d : ℕ) → c ≤ d → up_to c f d ≡ None
 unfolding up_to
 up_to_above c f d h = rw (up_to, le-ltb d c h)
 
@@ -108,11 +98,11 @@ same_held k f g e h =
 
 -- ---- what is chosen at a code
 module _ (lengths : BySection ℕ) (f : BySection (Option Contribution)) (c : ℕ) where
-  chosen_out : ((i : ℕ) → i < 8 → i + 3 ≡ c → ⊥) → chosen lengths f c ≡ none
+  chosen_out : ((i : ℕ) → i < 8 → i + 3 ≡ c → ⊥) → chosen lengths f c ≡ None
   unfolding chosen
   chosen_out h = rw (chosen, needed_out lengths c h)
 
-  chosen_empty : 3 ≤ c → c < 11 → lengths c ≡ 0 → chosen lengths f c ≡ none
+  chosen_empty : 3 ≤ c → c < 11 → lengths c ≡ 0 → chosen lengths f c ≡ None
   unfolding chosen
   chosen_empty h g e = rw (chosen, needed_in lengths c h g, eq-eqb (lengths c) 0 e)
 
@@ -122,10 +112,10 @@ module _ (lengths : BySection ℕ) (f : BySection (Option Contribution)) (c : �
 
 -- ---- a turn of a loop over the codes
 module _ (lengths : BySection ℕ) (f : BySection (Option Contribution)) (k : Contributions) where
-  pub fill_start : ContributionsAre k (λ c. none) → ContributionsAre k (up_to 3 (chosen lengths f))
-  fill_start h = same_held k (λ c. none) (up_to 3 (chosen lengths f)) go h
+  pub fill_start : ContributionsAre k (λ c. None) → ContributionsAre k (up_to 3 (chosen lengths f))
+  fill_start h = same_held k (λ c. None) (up_to 3 (chosen lengths f)) go h
     where
-      go : (d : ℕ) → none ≡ up_to 3 (chosen lengths f) d
+      go : (d : ℕ) → None ≡ up_to 3 (chosen lengths f) d
       go d =
           elim (dec_le 3 d) [
             | yes g ↦ sym (up_to_above 3 (chosen lengths f) d g)
@@ -144,7 +134,7 @@ module _ (lengths : BySection ℕ) (f : BySection (Option Contribution)) (k : Co
 
   module _ (c : ℕ) (low : 3 ≤ c) (high : c < 11) (h : ContributionsAre k (up_to c (chosen lengths f))) where
     -- a code at which nothing is chosen
-    idle : chosen lengths f c ≡ none → ContributionsAre k (up_to (c + 1) (chosen lengths f))
+    idle : chosen lengths f c ≡ None → ContributionsAre k (up_to (c + 1) (chosen lengths f))
     idle e = same_held k (up_to c (chosen lengths f)) (up_to (c + 1) (chosen lengths f)) go h
       where
         go : (d : ℕ) → up_to c (chosen lengths f) d ≡ up_to (c + 1) (chosen lengths f) d
@@ -172,6 +162,6 @@ module _ (lengths : BySection ℕ) (f : BySection (Option Contribution)) (k : Co
           | no q ↦ rw (sym (with_full k c (lengths c) (cell_found (f c)) q)) (stored (chosen_in lengths f c low high q))
         ]
 
-pub whole_chosen : (lengths : BySection ℕ) (s : ℕ) → chosen lengths (λ c. some (record { offset = 0; size = lengths c })) s ≡ whole_contributions lengths s
+pub whole_chosen : (lengths : BySection ℕ) (s : ℕ) → chosen lengths (λ c. Some (record { offset = 0; size = lengths c })) s ≡ whole_contributions lengths s
 unfolding chosen whole_contributions
 whole_chosen lengths s = refl

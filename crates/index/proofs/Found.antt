@@ -1,12 +1,6 @@
 -- What is placed is found, and nothing else: after `slots_of xs`, a search for each of xs ends at its slot, and for anything else at an unused slot.
-use mathlib.Core.Path.{◌≡◌, sym, ap, ◌∙◌, subst}
-use mathlib.Core.List.{List}
-use Prim.Native.Nat.{ℕ, zero, suc, ◌+◌, ◌-◌, ◌^◌, ◌<◌, ◌≤◌}
-use native.Mathlib.Nat.{not-suc-le-zero}
-use native.Mathlib.Omega.{arith}
+use Rattle.std.proofs.Common.{◌≡◌, sym, ap, ◌∙◌, subst, List, ℕ, zero, suc, ◌+◌, ◌-◌, ◌^◌, ◌<◌, ◌≤◌, not-suc-le-zero, arith, length, get_or, drop, drop_of_length-le, drop-cons}
 use native.Mathlib.Decide.{ℕ_discrete}
-use lib.ListN.{length, get_or, drop, drop_of_length-le}
-use lib.Seq.{drop-cons}
 use Rattle.octets.proofs.Placed.{get_d_zeros}
 use Rattle.index.specs.Probing.{found, absent, search, slots_for, Slots, place_all, unused, slots_of}
 use Rattle.index.proofs.Slots.{slots_for_power, slots_for_gt}

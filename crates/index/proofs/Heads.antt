@@ -1,16 +1,10 @@
 -- Where the numbers of an index lie, and what its head tells.
 -- number k of a table that starts at a place
-use mathlib.Core.Path.{◌≡◌, refl, sym, ap, ◌∙◌}
-use mathlib.Core.Bool.{Bool, true, ◌||◌}
-use mathlib.Core.List.{List}
-use Prim.Native.Nat.{ℕ, ◌+◌, ◌*◌, ◌-◌, ◌^◌, ◌<◌, ◌≤◌}
-use native.Mathlib.Omega.{arith}
-use lib.Dec.{eqb, ltb}
-use lib.ListN.{length, drop, get_or}
-use borrow.Author.Tests.{ltb-true, leb-true, eqb-true}
+use Rattle.std.proofs.Common.{◌≡◌, refl, sym, ap, ◌∙◌, Bool, true, ◌||◌, List, ℕ, ◌+◌, ◌*◌, ◌-◌, ◌^◌, ◌<◌, ◌≤◌, arith, eqb, ltb, length, drop, get_or, ltb-true, leb-true, eqb-true}
 use Rattle.octets.specs.Octets.{number_at, numbers_in}
 use Rattle.octets.specs.Lists.{all, distinct}
-use Rattle.octets.specs.Checked.{Check, pass, refuse, mapped}
+use Rattle.std.specs.Prelude.{Result, Ok, Err}
+use Rattle.octets.specs.Checked.{mapped}
 use Rattle.octets.proofs.Checks.{require_pass, and_left, and_right, pass_inj}
 use Rattle.octets.proofs.Numbers.{number_at_drop}
 use Rattle.octets.proofs.Tables.{length_numbers_in, numbers_in_at}
@@ -82,7 +76,7 @@ pub record WellFormed (big : Bool) (s : List ℕ) (h : IndexHead) : Type 0 where
   pub codes_good : all (code_good h.version) (index_in big s h).codes ≡ true
   pub codes_distinct : distinct (index_in big s h).codes ≡ true
   pub slots_good_law : slots_good h.units (index_in big s h).identities (index_in big s h).rows ≡ true
-  pub is : index_of big s ≡ pass (index_in big s h)
+  pub is : index_of big s ≡ Ok (index_in big s h)
 
 module _ (big : Bool) (s : List ℕ) where
   -- the head of the index that was read is what the section states
@@ -92,7 +86,7 @@ module _ (big : Bool) (s : List ℕ) where
       let h = stated big s in
       rw (length_numbers_in big 4 h.columns (drop (16 + 12 * h.slots) s), length_numbers_in big 4 h.slots (drop (16 + 8 * h.slots) s))
 
-  pub well_stated : (i : Index) → index_of big s ≡ pass i → WellFormed big s (stated big s)
+  pub well_stated : (i : Index) → index_of big s ≡ Ok i → WellFormed big s (stated big s)
   unfolding index_of stated index_in
   well_stated i e =
       let (a, e1) = require_pass _ _ _ _ e in
@@ -117,10 +111,10 @@ module _ (big : Bool) (s : List ℕ) where
       }
 
   -- an index that was read is the one that the head states
-  pub read_stated : (i : Index) → index_of big s ≡ pass i → i ≡ index_in big s (stated big s)
+  pub read_stated : (i : Index) → index_of big s ≡ Ok i → i ≡ index_in big s (stated big s)
   read_stated i e = pass_inj (sym e ∙ (well_stated i e).is)
 
-  pub head_stated : (i : Index) → index_of big s ≡ pass i → head_of i ≡ stated big s
+  pub head_stated : (i : Index) → index_of big s ≡ Ok i → head_of i ≡ stated big s
   head_stated i e = ap head_of (read_stated i e) ∙ head_of_law
 
   -- a head that was read
@@ -128,9 +122,9 @@ module _ (big : Bool) (s : List ℕ) where
   unfolding mapped
   well h r = go (index_of big s) refl r.is
     where
-      go : (x : Check Index) → index_of big s ≡ x → mapped head_of x ≡ pass h → WellFormed big s h
-      go (refuse n) e g = absurd (let z : ◌≡◌ {A = ℕ} 0 1 = cc in omega arith)
-      go (pass i) e g =
+      go : (x : Result Index ℕ) → index_of big s ≡ x → mapped head_of x ≡ Ok h → WellFormed big s h
+      go (Err n) e g = absurd (let z : ◌≡◌ {A = ℕ} 0 1 = cc in omega arith)
+      go (Ok i) e g =
           let same : h ≡ stated big s = sym (pass_inj g) ∙ head_stated i e in
           rw same (well_stated i e)
 
@@ -138,7 +132,7 @@ module _ (big : Bool) (s : List ℕ) (h : IndexHead) (r : ReadWell big s h) wher
   pub read_sized : Sized s h
   read_sized = record { is = (well big s h r).sized }
 
-  pub read_is : index_of big s ≡ pass (index_in big s h)
+  pub read_is : index_of big s ≡ Ok (index_in big s h)
   read_is = (well big s h r).is
 
   pub read_well : Well (index_in big s h)

@@ -1,15 +1,7 @@
 -- Tests of one cell, by case; and loops over the shared sections' codes.
 -- ---- one cell
-use mathlib.Core.Path.{◌≡◌, refl, sym, ap, ◌∙◌}
-use mathlib.Core.Bool.{Bool, true, false, not, ◌||◌}
-use mathlib.Core.List.{List, ◌∷◌}
-use mathlib.Core.Logic.{⊎_elim}
-use mathlib.Core.Option.{Option, some, none}
-use Prim.Native.Nat.{ℕ, zero, suc, ◌+◌, ◌-◌, ◌<◌, ◌≤◌}
-use native.Mathlib.Omega.{arith}
-use lib.Dec.{eqb}
-use lib.ListN.{length, get_or, drop, drop_of_length-le}
-use lib.Seq.{drop-cons}
+use Rattle.std.proofs.Common.{◌≡◌, refl, sym, ap, ◌∙◌, Bool, true, false, not, ◌||◌, List, ◌∷◌, ⊎_elim, ℕ, zero, suc, ◌+◌, ◌-◌, ◌<◌, ◌≤◌, arith, eqb, length, get_or, drop, drop_of_length-le, drop-cons}
+use Rattle.std.specs.Prelude.{Option, Some, None}
 use Rattle.octets.specs.Lists.{all, those}
 use Rattle.octets.proofs.Checks.{known, true_false}
 use Rattle.octets.proofs.Lists.{all_cons, all_stops, those_keeps, those_skips}
@@ -21,14 +13,14 @@ use Rattle.index.specs.Contributed.{own_cell, whole_entries, good_cell}
 -- ---- the definition's tests of a cell are these
 pub own_cell_law : (at size : ℕ) (o : Option Contribution) → own_cell at size (cell_found o) ≡ cell_is (own_place at size) o
 unfolding own_cell cell_found cell_is own_place
-own_cell_law at size (some c) = refl
-own_cell_law at size none = refl
+own_cell_law at size (Some c) = refl
+own_cell_law at size None = refl
 
 pub good_cell_law : (width : ℕ) (lengths : BySection ℕ) (s : ℕ) (o : Option Contribution)
     → good_cell width (lengths s) s (cell_found o) ≡ cell_is (part_good width lengths s) o
 unfolding good_cell whole_entries cell_found cell_is part_good
-good_cell_law width lengths s (some c) = refl
-good_cell_law width lengths s none = refl
+good_cell_law width lengths s (Some c) = refl
+good_cell_law width lengths s None = refl
 
 -- ---- the shared sections' codes
 pub shared_at : (i : ℕ) → i < 8 → get_or shared i 0 ≡ i + 3
@@ -79,5 +71,5 @@ module _ (f : ℕ → Bool) (lengths : BySection ℕ) (c : ℕ) where
       (known (eqb (lengths c) 0)))
 
   pub ahead_end : 11 ≤ c → true ≡ all f (ahead lengths c)
-  unfolding ahead shared those all
+  unfolding ahead shared
   ahead_end h = let l : length shared ≤ c - 3 = omega arith in rw (drop_of_length-le shared l)

@@ -1,16 +1,8 @@
 -- The bytes of an index: where each table starts, and what is read there.
-use mathlib.Core.Path.{◌≡◌, refl, ◌∙◌}
-use mathlib.Core.Logic.{⊎_elim}
-use mathlib.Core.Bool.{Bool, true, false, ◌&&◌, ◌||◌}
-use mathlib.Core.List.{List, ◌++◌}
-use Prim.Native.Nat.{ℕ, ◌+◌, ◌*◌, ◌^◌}
-use native.Mathlib.Omega.{arith}
-use lib.Dec.{eqb, leb, ltb}
-use lib.ListN.{length, drop, length-append}
-use lib.Seq.{drop_at}
+use Rattle.std.proofs.Common.{◌≡◌, refl, ◌∙◌, ⊎_elim, Bool, true, false, ◌&&◌, ◌||◌, List, ◌++◌, ℕ, ◌+◌, ◌*◌, ◌^◌, arith, eqb, leb, ltb, length, drop, length-append, drop_at}
 use Rattle.octets.specs.Octets.{part, little, big_from, number, number_at, numbers_in, little_of, big_of, bytes_of, numbers_of}
 use Rattle.octets.specs.Lists.{all, distinct}
-use Rattle.octets.specs.Checked.{pass}
+use Rattle.std.specs.Prelude.{Ok}
 use Rattle.octets.proofs.Checks.{passes}
 use Rattle.octets.proofs.Numbers.{length_bytes_of}
 use Rattle.octets.proofs.Tables.{numbers_in_round}
@@ -52,7 +44,7 @@ pub index_of_passes : (big : Bool) (s : List ℕ) (v c u n : ℕ) → version_of
     → eqb (length s) (16 + 12 * n + 4 * c + 8 * (u * c)) ≡ true
     → (all (code_good v) (layout big v c u n s).codes && distinct (layout big v c u n s).codes) ≡ true
     → slots_good u (layout big v c u n s).identities (layout big v c u n s).rows ≡ true
-    → index_of big s ≡ pass (layout big v c u n s)
+    → index_of big s ≡ Ok (layout big v c u n s)
 unfolding index_of
 index_of_passes big s v c u n ev ec eu en t1 t2 t3 t4 t5 t6 t7 =
     passes _ _ _ t1

@@ -1,12 +1,5 @@
 -- Columns that an index has: their codes are good and different, and each stands at its place.
-use mathlib.Core.Path.{◌≡◌, refl, sym, ap, ◌∙◌}
-use mathlib.Core.Logic.{◌⊎◌, inl, inr, ⊎_elim}
-use mathlib.Core.Bool.{Bool, true, false}
-use mathlib.Core.List.{List, [], ◌∷◌, map}
-use Prim.Native.Nat.{ℕ, ◌≤◌}
-use native.Mathlib.Omega.{arith}
-use lib.Dec.{eqb}
-use lib.ListN.{length}
+use Rattle.std.proofs.Common.{◌≡◌, refl, sym, ap, ◌∙◌, ◌⊎◌, inl, inr, ⊎_elim, Bool, true, false, List, [], ◌∷◌, map, ℕ, ◌≤◌, arith, eqb, length}
 use Rattle.octets.specs.Lists.{those, all, any, has, distinct}
 use Rattle.octets.proofs.Checks.{true_false, known}
 use Rattle.octets.proofs.Lists.{all_cons, all_head, all_tail, those_keeps, those_skips}
@@ -34,11 +27,11 @@ unfolding columns_of
 columns_of_form version = ⊎_elim (λ r. rw (r.1, r.2)) (λ r. rw (r.1, r.2)) (forms version)
 
 pub columns_good : (version : ℕ) → all (code_good (form_of version)) (codes_of (columns_of version)) ≡ true
-unfolding all code_good columns_four columns_five
+unfolding code_good columns_four columns_five
 columns_good version = ⊎_elim (λ r. rw (r.1, r.2)) (λ r. rw (r.1, r.2)) (forms version)
 
 pub columns_distinct : (version : ℕ) → distinct (codes_of (columns_of version)) ≡ true
-unfolding distinct has any columns_four columns_five
+unfolding distinct has columns_four columns_five
 columns_distinct version = ⊎_elim (λ r. rw r.2) (λ r. rw r.2) (forms version)
 
 pub columns_most_law : (version : ℕ) → length (columns_of version) ≤ columns_most (form_of version)
@@ -48,7 +41,6 @@ columns_most_law version = ⊎_elim (λ r. rw (r.1, r.2) (omega arith)) (λ r. r
 -- ---- those that are there
 module _ (f : Column → Bool) where
   pub codes_all : (g : ℕ → Bool) (cs : List Column) → all g (codes_of cs) ≡ true → all g (codes_of (those f cs)) ≡ true
-  unfolding those all
   codes_all g [] e = refl
   codes_all g (c ∷ cs) e =
       let rest = codes_all g cs (all_tail g c.column (codes_of cs) e) in
@@ -57,7 +49,7 @@ module _ (f : Column → Bool) where
 
   -- a code that none has
   pub codes_without : (x : ℕ) (cs : List Column) → has (codes_of cs) x ≡ false → has (codes_of (those f cs)) x ≡ false
-  unfolding those has any
+  unfolding has
   codes_without x [] e = refl
   codes_without x (c ∷ cs) e =
       let other : x ≡ c.column → ⊥ = λ q. true_false (has_cons x c.column (codes_of cs) q) e in
@@ -66,7 +58,7 @@ module _ (f : Column → Bool) where
       (λ p. ap (λ (z : List Column). has (codes_of z) x) (those_skips f c cs p) ∙ rest) (known (f c))
 
   pub codes_distinct : (cs : List Column) → distinct (codes_of cs) ≡ true → distinct (codes_of (those f cs)) ≡ true
-  unfolding those distinct
+  unfolding distinct
   codes_distinct [] e = refl
   codes_distinct (c ∷ cs) e =
       let rest = codes_distinct cs (distinct_tail c.column (codes_of cs) e) in

@@ -1,8 +1,5 @@
 -- The version of an index written is its form's, and there is no index without rows.
-use mathlib.Core.Path.{◌≡◌, refl}
-use mathlib.Core.Bool.{Bool}
-use mathlib.Core.List.{List, []}
-use Prim.Native.Nat.{ℕ}
+use Rattle.std.proofs.Common.{◌≡◌, refl, Bool, List, [], ℕ}
 use Rattle.index.specs.Probing.{Slots}
 use Rattle.index.specs.Written.{Row, index_bytes}
 use Rattle.index.proofs.LawColumns.{form_of}

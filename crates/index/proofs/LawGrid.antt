@@ -1,12 +1,7 @@
 -- A grid of numbers, one for each row and column: its length, its entries, and bounds of numbers in lists.
-use mathlib.Core.Path.{◌≡◌, ◌∙◌}
-use mathlib.Core.List.{List, [], ◌∷◌, ◌++◌, map}
-use mathlib.Core.Option.{Option, none}
-use Prim.Native.Nat.{ℕ, zero, suc, ◌+◌, ◌*◌, ◌<◌}
-use native.Mathlib.Nat.{not-suc-le-zero, le_of_suc-le-suc, suc-mul, zero-mul, mul_comm}
-use native.Mathlib.Omega.{arith}
-use lib.ListN.{length, get_or, length-map, get_or-append}
-use lib.Seq.{get_or-append-add}
+use Rattle.std.proofs.Common.{◌≡◌, ◌∙◌, List, [], ◌∷◌, ◌++◌, map, ℕ, zero, suc, ◌+◌, ◌*◌, ◌<◌, not-suc-le-zero, le_of_suc-le-suc, suc-mul, zero-mul, mul_comm, arith, length, get_or, get_or-append-add}
+use Rattle.std.specs.Prelude.{Option, None}
+use lib.ListN.{length-map, get_or-append}
 use Rattle.std.proofs.lemmas.List.{get_or-map}
 use Rattle.octets.specs.Lists.{joined}
 use Rattle.octets.proofs.Joined.{length_joined_even}
@@ -17,7 +12,7 @@ use Rattle.index.proofs.LawPlaces.{no_column}
 
 -- what stands behind the last row
 pub no_row : Row
-no_row = record { identity = 0; cells = λ s. none }
+no_row = record { identity = 0; cells = λ s. None }
 
 abbrev pub identities_of : List Row → List ℕ
 identities_of rs = map (λ q. q.identity) rs
@@ -55,7 +50,7 @@ module _ (f : Option Contribution → ℕ) (columns : List Column) where
 
   pub grid_at : (rows : List Row) (k p : ℕ) → k < length rows → p < length columns
       → get_or (grid f columns rows) (k * length columns + p) 0 ≡ f ((get_or rows k no_row).cells (get_or columns p no_column).section)
-  unfolding grid joined
+  unfolding grid
   grid_at [] k p h g = absurd (not-suc-le-zero h)
   grid_at (r ∷ rs) zero p h g =
       let e : 0 * length columns + p ≡ p = omega (arith, zero-mul (length columns)) in
@@ -67,7 +62,7 @@ module _ (f : Option Contribution → ℕ) (columns : List Column) where
       rw e (get_or-append-add (line r) (grid f columns rs) (k * length columns + p) 0 ∙ grid_at rs k p (le_of_suc-le-suc h) g)
 
   pub grid_below : (b : ℕ) (rows : List Row) → 0 < b → ((k s : ℕ) → k < length rows → f ((get_or rows k no_row).cells s) < b) → Below b (grid f columns rows)
-  unfolding grid joined
+  unfolding grid
   grid_below b [] z h = below_none b z
   grid_below b (r ∷ rs) z h =
       below_append b (line r) (grid f columns rs) (below_map b (λ c. f (r.cells c.section)) columns z (λ c. h 0 c.section (omega arith)))

@@ -1,12 +1,6 @@
 -- A law for each case of a look, and what a search finds by the slots that it passes.
-use mathlib.Core.Path.{◌≡◌, sym, ap, ◌∙◌}
-use mathlib.Core.List.{List}
-use Prim.Native.Nat.{ℕ, zero, suc, ◌+◌, ◌-◌, ◌%◌, ◌<◌, ◌≤◌}
-use native.Mathlib.Nat.{mod-lt, zero-add}
-use native.Mathlib.Omega.{arith}
+use Rattle.std.proofs.Common.{◌≡◌, sym, ap, ◌∙◌, List, ℕ, zero, suc, ◌+◌, ◌-◌, ◌%◌, ◌<◌, ◌≤◌, mod-lt, zero-add, arith, length, get_or, eq-eqb, ne_eqb}
 use native.Mathlib.Decide.{ℕ_discrete}
-use lib.ListN.{length, get_or}
-use borrow.Author.Tests.{eq-eqb, ne_eqb}
 use Rattle.index.specs.Probing.{Probe, found, absent, first_slot, stride, look, search}
 use Rattle.index.proofs.Orbit.{slot_at, slot_at_zero, slot_at_next}
 use Rattle.index.proofs.Placing.{probed}

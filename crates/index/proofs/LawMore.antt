@@ -1,9 +1,5 @@
 -- Placing goes on: identities behind those that were placed, in any number of slots.
-use mathlib.Core.Path.{◌≡◌, ap, ◌∙◌}
-use mathlib.Core.List.{List, [], ◌∷◌, ◌++◌}
-use Prim.Native.Nat.{ℕ, zero, suc, ◌+◌, ◌≤◌, ◌<◌}
-use native.Mathlib.Omega.{arith}
-use lib.ListN.{length, get_or, set}
+use Rattle.std.proofs.Common.{◌≡◌, ap, ◌∙◌, List, [], ◌∷◌, ◌++◌, ℕ, zero, suc, ◌+◌, ◌≤◌, ◌<◌, arith, length, get_or, set}
 use Rattle.index.specs.Probing.{Slots, place, place_all, unused}
 use Rattle.index.proofs.LawPlaced.{Distinct, Placed}
 use Rattle.index.proofs.Found.{placed_all, placed_none}

@@ -1,12 +1,6 @@
 -- Where identities lie that were placed: each behind slots that others use.
-use mathlib.Core.Path.{◌≡◌, sym, ap, ◌∙◌}
-use mathlib.Core.Bool.{true}
-use mathlib.Core.List.{List}
-use Prim.Native.Nat.{ℕ, suc, ◌+◌, ◌<◌}
-use native.Mathlib.Omega.{arith}
+use Rattle.std.proofs.Common.{◌≡◌, sym, ap, ◌∙◌, true, List, ℕ, suc, ◌+◌, ◌<◌, arith, length, get_or, get_or-set_same, get_or-set_other}
 use native.Mathlib.Decide.{ℕ_discrete}
-use lib.ListN.{length, get_or}
-use lib.Seq.{get_or-set_same, get_or-set_other}
 use Rattle.octets.specs.Lists.{distinct}
 use Rattle.octets.proofs.Elements.{distinct_at}
 use Rattle.index.specs.Probing.{Slots}

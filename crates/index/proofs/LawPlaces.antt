@@ -1,14 +1,7 @@
 -- Where a section's column stands among those that are there.
-use mathlib.Core.Path.{◌≡◌, refl, sym, ap, ◌∙◌}
-use mathlib.Core.Logic.{◌⊎◌, inl, inr}
-use mathlib.Core.Bool.{Bool, true, false}
-use mathlib.Core.List.{List, [], ◌∷◌}
-use mathlib.Core.Option.{some, none}
-use Prim.Native.Nat.{ℕ, suc, ◌<◌}
-use native.Mathlib.Omega.{arith}
+use Rattle.std.proofs.Common.{◌≡◌, refl, sym, ap, ◌∙◌, ◌⊎◌, inl, inr, Bool, true, false, List, [], ◌∷◌, ℕ, suc, ◌<◌, arith, length, get_or, eq-eqb, ne_eqb}
+use Rattle.std.specs.Prelude.{Some, None}
 use native.Mathlib.Decide.{ℕ_discrete}
-use lib.ListN.{length, get_or}
-use borrow.Author.Tests.{eq-eqb, ne_eqb}
 use Rattle.octets.specs.Lists.{those, has, distinct}
 use Rattle.octets.proofs.Checks.{true_false, known}
 use Rattle.octets.proofs.Lists.{those_keeps, those_skips}
@@ -19,19 +12,19 @@ use Rattle.index.specs.Index.{place_of}
 use Rattle.index.proofs.LawColumns.{codes_of, codes_without}
 
 -- ---- the place of a code
-pub place_of_here : (k : ℕ) (ks : List ℕ) (c : ℕ) → k ≡ c → place_of (k ∷ ks) c ≡ some 0
+pub place_of_here : (k : ℕ) (ks : List ℕ) (c : ℕ) → k ≡ c → place_of (k ∷ ks) c ≡ Some 0
 unfolding place_of
 place_of_here k ks c e = rw (place_of, eq-eqb k c e)
 
-pub place_of_on : (k : ℕ) (ks : List ℕ) (c p : ℕ) → (k ≡ c → ⊥) → place_of ks c ≡ some p → place_of (k ∷ ks) c ≡ some (suc p)
+pub place_of_on : (k : ℕ) (ks : List ℕ) (c p : ℕ) → (k ≡ c → ⊥) → place_of ks c ≡ Some p → place_of (k ∷ ks) c ≡ Some (suc p)
 unfolding place_of
 place_of_on k ks c p g e = rw (place_of, ne_eqb k c g, e)
 
-pub place_of_not : (k : ℕ) (ks : List ℕ) (c : ℕ) → (k ≡ c → ⊥) → place_of ks c ≡ none → place_of (k ∷ ks) c ≡ none
+pub place_of_not : (k : ℕ) (ks : List ℕ) (c : ℕ) → (k ≡ c → ⊥) → place_of ks c ≡ None → place_of (k ∷ ks) c ≡ None
 unfolding place_of
 place_of_not k ks c g e = rw (place_of, ne_eqb k c g, e)
 
-pub place_of_none : (ks : List ℕ) (c : ℕ) → has ks c ≡ false → place_of ks c ≡ none
+pub place_of_none : (ks : List ℕ) (c : ℕ) → has ks c ≡ false → place_of ks c ≡ None
 unfolding place_of
 place_of_none [] c e = refl
 place_of_none (k ∷ ks) c e =
@@ -39,7 +32,7 @@ place_of_none (k ∷ ks) c e =
     place_of_not k ks c (λ q. other (sym q)) (place_of_none ks c (sym (has_skips c k ks other) ∙ e))
 
 -- ---- the column of a section
-pub column_in_here : (k : Column) (ks : List Column) (s : ℕ) → k.section ≡ s → column_in (k ∷ ks) s ≡ some k.column
+pub column_in_here : (k : Column) (ks : List Column) (s : ℕ) → k.section ≡ s → column_in (k ∷ ks) s ≡ Some k.column
 unfolding column_in
 column_in_here k ks s e = rw (column_in, eq-eqb k.section s e)
 
@@ -47,7 +40,7 @@ pub column_in_on : (k : Column) (ks : List Column) (s : ℕ) → (k.section ≡ 
 unfolding column_in
 column_in_on k ks s g = rw (column_in, ne_eqb k.section s g)
 
-pub column_in_has : (ks : List Column) (s c : ℕ) → column_in ks s ≡ some c → has (codes_of ks) c ≡ true
+pub column_in_has : (ks : List Column) (s c : ℕ) → column_in ks s ≡ Some c → has (codes_of ks) c ≡ true
 unfolding column_in
 column_in_has [] s c e = some_none (sym e)
 column_in_has (k ∷ ks) s c e =
@@ -60,7 +53,7 @@ column_in_has (k ∷ ks) s c e =
     ]
 
 -- a column that is not the first has another code than the first
-later : (k : Column) (ks : List Column) (s c : ℕ) → distinct (codes_of (k ∷ ks)) ≡ true → column_in ks s ≡ some c → k.column ≡ c → ⊥
+later : (k : Column) (ks : List Column) (s c : ℕ) → distinct (codes_of (k ∷ ks)) ≡ true → column_in ks s ≡ Some c → k.column ≡ c → ⊥
 later k ks s c d e q = true_false (column_in_has ks s c e) (ap (has (codes_of ks)) (sym q) ∙ distinct_head k.column (codes_of ks) d)
 
 pub no_column : Column
@@ -71,7 +64,7 @@ pub record At (cs : List Column) (s c : ℕ) : Type 0 where
   pub place : ℕ
   pub within : place < length cs
   pub section_there : (get_or cs place no_column).section ≡ s
-  pub is : place_of (codes_of cs) c ≡ some place
+  pub is : place_of (codes_of cs) c ≡ Some place
 
 -- columns are there by a test of their sections
 module _ (g : ℕ → Bool) (s : ℕ) where
@@ -82,7 +75,7 @@ module _ (g : ℕ → Bool) (s : ℕ) where
   there ks = those (λ c. g c.section) ks
 
   -- s passes the test
-  pub column_there : (ks : List Column) (c : ℕ) → g s ≡ true → distinct (codes_of ks) ≡ true → column_in ks s ≡ some c → At (there ks) s c
+  pub column_there : (ks : List Column) (c : ℕ) → g s ≡ true → distinct (codes_of ks) ≡ true → column_in ks s ≡ Some c → At (there ks) s c
   unfolding column_in
   column_there [] c t d e = some_none (sym e)
   column_there (k ∷ ks) c t d e =
@@ -91,7 +84,7 @@ module _ (g : ℕ → Bool) (s : ℕ) where
             let r : k.column ≡ c = some_inj (sym (column_in_here k ks s q) ∙ e) in
             rw (those_keeps f k ks (ap g q ∙ t)) (record { place = 0; within = omega arith; section_there = q; is = place_of_here k.column (codes_of (there ks)) c r })
         | no q ↦
-            let e' : column_in ks s ≡ some c = sym (column_in_on k ks s q) ∙ e in
+            let e' : column_in ks s ≡ Some c = sym (column_in_on k ks s q) ∙ e in
             further (known (f k)) (later k ks s c d e') (column_there ks c t (distinct_tail k.column (codes_of ks) d) e')
       ]
     where
@@ -101,7 +94,7 @@ module _ (g : ℕ → Bool) (s : ℕ) where
           (record { place = suc a.place; within = omega (arith, a.within); section_there = a.section_there; is = place_of_on k.column (codes_of (there ks)) c a.place n a.is })
       further (inr p) n a = rw (those_skips f k ks p) a
 
-  pub column_missing : (ks : List Column) (c : ℕ) → g s ≡ false → distinct (codes_of ks) ≡ true → column_in ks s ≡ some c → place_of (codes_of (there ks)) c ≡ none
+  pub column_missing : (ks : List Column) (c : ℕ) → g s ≡ false → distinct (codes_of ks) ≡ true → column_in ks s ≡ Some c → place_of (codes_of (there ks)) c ≡ None
   unfolding column_in
   column_missing [] c t d e = some_none (sym e)
   column_missing (k ∷ ks) c t d e =
@@ -111,10 +104,10 @@ module _ (g : ℕ → Bool) (s : ℕ) where
             rw (those_skips f k ks (ap g q ∙ t))
             (place_of_none (codes_of (there ks)) c (codes_without f c ks (ap (has (codes_of ks)) (sym r) ∙ distinct_head k.column (codes_of ks) d)))
         | no q ↦
-            let e' : column_in ks s ≡ some c = sym (column_in_on k ks s q) ∙ e in
+            let e' : column_in ks s ≡ Some c = sym (column_in_on k ks s q) ∙ e in
             further (known (f k)) (later k ks s c d e') (column_missing ks c t (distinct_tail k.column (codes_of ks) d) e')
       ]
     where
-      further : (f k ≡ true) ⊎ (f k ≡ false) → (k.column ≡ c → ⊥) → place_of (codes_of (there ks)) c ≡ none → place_of (codes_of (there (k ∷ ks))) c ≡ none
+      further : (f k ≡ true) ⊎ (f k ≡ false) → (k.column ≡ c → ⊥) → place_of (codes_of (there ks)) c ≡ None → place_of (codes_of (there (k ∷ ks))) c ≡ None
       further (inl p) n a = rw (those_keeps f k ks p) (place_of_not k.column (codes_of (there ks)) c n a)
       further (inr p) n a = rw (those_skips f k ks p) a

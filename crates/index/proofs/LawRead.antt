@@ -1,10 +1,6 @@
 -- Each table of an index written is read back from its place.
-use mathlib.Core.Path.{◌≡◌, ap, ◌∙◌}
-use mathlib.Core.Bool.{Bool}
-use mathlib.Core.List.{List, [], ◌∷◌, ◌++◌, append_assoc, append-nil}
-use Prim.Native.Nat.{ℕ, ◌+◌, ◌*◌, ◌^◌, ◌<◌}
-use native.Mathlib.Omega.{arith}
-use lib.ListN.{length, get_or, drop, length-append, length-map}
+use Rattle.std.proofs.Common.{◌≡◌, ap, ◌∙◌, Bool, List, [], ◌∷◌, ◌++◌, append_assoc, append-nil, ℕ, ◌+◌, ◌*◌, ◌^◌, ◌<◌, arith, length, get_or, drop, length-append}
+use lib.ListN.{length-map}
 use Rattle.octets.specs.Octets.{number_at, numbers_in, numbers_of}
 use Rattle.octets.proofs.Tables.{length_numbers_of, entry_at}
 use Rattle.index.specs.Columns.{Column}

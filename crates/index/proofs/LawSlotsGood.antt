@@ -1,13 +1,6 @@
 -- The slots of a written index are good: row numbers up to the units, zero where the identity is and only there.
-use mathlib.Core.Path.{◌≡◌, refl, sym, ◌∙◌}
-use mathlib.Core.Bool.{true}
-use mathlib.Core.List.{List, [], ◌∷◌}
-use Prim.Native.Nat.{ℕ, suc, ◌≤◌}
-use native.Mathlib.Omega.{arith}
+use Rattle.std.proofs.Common.{◌≡◌, refl, sym, ◌∙◌, true, List, [], ◌∷◌, ℕ, suc, ◌≤◌, arith, leb, length, get_or, le-leb, eq-eqb, ne_eqb}
 use native.Mathlib.Decide.{ℕ_discrete}
-use lib.Dec.{leb}
-use lib.ListN.{length, get_or}
-use borrow.Author.Tests.{le-leb, eq-eqb, ne_eqb}
 use Rattle.octets.specs.Lists.{zero_together}
 use Rattle.octets.proofs.Checks.{and_both}
 use Rattle.index.specs.Index.{slots_good}

@@ -1,13 +1,8 @@
 -- An index from rows to answers: written, read back, and probed: each row's identity is found with its row number, anything else is absent.
-use mathlib.Core.Path.{◌≡◌, refl, ap, ◌∙◌}
-use mathlib.Core.Bool.{Bool, false}
-use mathlib.Core.List.{List, [], ◌∷◌}
-use Prim.Native.Nat.{ℕ, ◌+◌, ◌*◌, ◌^◌, ◌<◌, ◌≤◌}
-use native.Mathlib.Nat.{not-suc-le-zero}
-use native.Mathlib.Omega.{arith}
-use lib.ListN.{length, get_or, length-map}
+use Rattle.std.proofs.Common.{◌≡◌, refl, ap, ◌∙◌, Bool, false, List, [], ◌∷◌, ℕ, ◌+◌, ◌*◌, ◌^◌, ◌<◌, ◌≤◌, not-suc-le-zero, arith, length, get_or}
+use lib.ListN.{length-map}
 use Rattle.octets.specs.Lists.{has}
-use Rattle.octets.specs.Checked.{pass}
+use Rattle.std.specs.Prelude.{Ok}
 use Rattle.octets.proofs.Elements.{has_not_at}
 use Rattle.index.specs.Index.{Index, index_of}
 use Rattle.index.specs.Probing.{found, absent, probe, Slots, slots_of, slots_for}
@@ -26,9 +21,9 @@ module _ (i : Index) (x row : ℕ) (f : FoundIn i.rows i.identities x row) where
   unfolding probe
   probe_found = f.is
 
-  pub row_found : row_of i (probe i x) ≡ pass row
+  pub row_found : row_of i (probe i x) ≡ Ok row
   unfolding row_of
-  row_found = ap (row_of i) probe_found ∙ ap pass f.row_there
+  row_found = ap (row_of i) probe_found ∙ ap Ok f.row_there
 
 module _ (i : Index) (x : ℕ) (a : AbsentIn i.rows i.identities x) where
   pub probe_absent : probe i x ≡ absent a.looks
@@ -57,7 +52,7 @@ pub record Indexed (big : Bool) (version : ℕ) (rs : List Row) (s : List ℕ) :
   pub slots_are : slots_of (identities_of rs) ≡ slots
   pub bytes_are : s ≡ index_with big version (present_columns version rs) rs slots
   pub length_is : length s ≡ 16 + 12 * slots_for (length rs) + 4 * length (present_columns version rs) + 8 * (length rs * length (present_columns version rs))
-  pub reads : index_of big s ≡ pass (written version rs slots)
+  pub reads : index_of big s ≡ Ok (written version rs slots)
   pub slot_count : length (written version rs slots).rows ≡ slots_for (length rs)
   pub used_are : used slots.rows ≡ length rs
   pub finds : (k : ℕ) → k < length rs → FoundIn (written version rs slots).rows (written version rs slots).identities (get_or rs k no_row).identity (k + 1)

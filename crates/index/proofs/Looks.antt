@@ -1,10 +1,6 @@
 -- Where the search of the code ends.
-use mathlib.Core.Path.{◌≡◌, sym, ap, ◌∙◌}
-use mathlib.Core.List.{List}
-use Prim.Native.Nat.{ℕ, suc, ◌+◌, ◌-◌, ◌%◌, ◌<◌}
-use native.Mathlib.Omega.{arith}
+use Rattle.std.proofs.Common.{◌≡◌, sym, ap, ◌∙◌, List, ℕ, suc, ◌+◌, ◌-◌, ◌%◌, ◌<◌, arith, length, get_or}
 use native.Mathlib.Nat.{sub-zero}
-use lib.ListN.{length, get_or}
 use Rattle.std.specs.Prelude.{Some, None}
 use Rattle.index.specs.Index.{Index}
 use Rattle.index.specs.Probing.{Probe, first_slot, stride, look, search, probe}

@@ -1,12 +1,9 @@
 -- Masks of powers of two are remainders, and `| 1` makes odd.
-use mathlib.Core.Path.{◌≡◌, refl, sym, ap, ◌∙◌}
-use Prim.Native.Nat.{ℕ, zero, suc, ◌+◌, ◌*◌, ◌-◌, ◌/◌, ◌%◌, ◌^◌, ◌<◌, ◌≤◌}
-use native.Mathlib.Nat.{mod-lt, pow-succ', pow-le-pow_right, one-mul, mul-one, mul_assoc, mul_left_comm}
-use native.Mathlib.Omega.{arith}
+use Rattle.std.proofs.Common.{◌≡◌, refl, sym, ap, ◌∙◌, ℕ, zero, suc, ◌+◌, ◌*◌, ◌-◌, ◌/◌, ◌%◌, ◌^◌, ◌<◌, ◌≤◌, mod-lt, one-mul, mul-one, mul_assoc, mul_left_comm, arith, pow_pos, le-leb}
+use native.Mathlib.Nat.{pow-succ', pow-le-pow_right}
 use native.Mathlib.Decide.{dec_le}
 use lib.Bits.{bit_and, bit_or, and_mask, or_step, or_zero_r}
-use lib.Pow.{pow_pos}
-use borrow.Author.Tests.{le-leb, lt-leb}
+use borrow.Author.Tests.{lt-leb}
 use Rattle.index.specs.Index.{power_from, least_power}
 use Rattle.index.specs.Probing.{first_slot, stride}
 use Rattle.index.specs.Held.{PowerOfTwo}

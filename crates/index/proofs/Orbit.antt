@@ -1,8 +1,6 @@
 -- An odd step visits no slot twice in as many steps as there are slots, where their number is a power of two.
-use mathlib.Core.Path.{◌≡◌, sym, ap, ◌∙◌}
-use Prim.Native.Nat.{ℕ, zero, suc, ◌+◌, ◌*◌, ◌-◌, ◌/◌, ◌%◌, ◌^◌, ◌<◌}
-use native.Mathlib.Nat.{one-mul, mul-one, mul_assoc, mul_comm, mul-add, add-mul, mul-sub, mul-suc, pow-succ', div-add-mod, mul-zero, zero-mul, suc-mul, mod-eq_of_lt, mod-add-mod, mod-lt}
-use native.Mathlib.Omega.{arith}
+use Rattle.std.proofs.Common.{◌≡◌, sym, ap, ◌∙◌, ℕ, zero, suc, ◌+◌, ◌*◌, ◌-◌, ◌/◌, ◌%◌, ◌^◌, ◌<◌, one-mul, mul-one, mul_assoc, mul_comm, mul-add, add-mul, mul-suc, mul-zero, zero-mul, suc-mul, mod-eq_of_lt, mod-lt, arith}
+use native.Mathlib.Nat.{mul-sub, pow-succ', div-add-mod, mod-add-mod}
 use native.Mathlib.Decide.{dec_le}
 use Rattle.index.specs.Held.{PowerOfTwo}
 

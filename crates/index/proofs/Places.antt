@@ -1,19 +1,10 @@
 -- Columns by their place, the place of a code among an index's columns, and cells.
 -- ---- columns
-use mathlib.Core.Path.{◌≡◌, refl, sym, ap, ◌∙◌}
-use mathlib.Core.Bool.{true, false}
-use mathlib.Core.List.{List, [], ◌∷◌, map}
-use mathlib.Core.Option.{Option, some, none}
-use mathlib.Core.Logic.{⊎_elim}
-use Prim.Native.Nat.{ℕ, zero, suc, ◌+◌, ◌*◌, ◌-◌, ◌<◌, ◌≤◌}
-use native.Mathlib.Nat.{mul-suc, mul_comm, mul-le-mul_right}
-use native.Mathlib.Omega.{arith}
-use lib.Dec.{eqb}
-use lib.ListN.{length}
+use Rattle.std.proofs.Common.{◌≡◌, refl, sym, ap, ◌∙◌, true, false, List, [], ◌∷◌, map, ⊎_elim, ℕ, zero, suc, ◌+◌, ◌*◌, ◌-◌, ◌<◌, ◌≤◌, mul-suc, mul_comm, mul-le-mul_right, arith, eqb, length}
+use Rattle.std.specs.Prelude.{Option, Some, None, find}
 use Rattle.octets.proofs.Checks.{known}
 use Rattle.index.specs.Columns.{Column, columns_of, column_in}
 use Rattle.index.specs.Index.{Index, place_of, cell_at, cell_of}
-use Rattle.std.specs.Prelude.{Some, None, find}
 use Rattle.std.specs.Option.{option_map}
 use Rattle.octets.specs.Options.{found}
 use Rattle.index.specs.Cells.{column_place, cell_found}
@@ -27,10 +18,10 @@ column_finds (c ∷ cs) section = ⊎_elim (λ (p : eqb c.section section ≡ tr
 
 -- ---- cells
 one_more : Option ℕ → Option ℕ
-one_more (some n) = some (suc n)
-one_more none = none
+one_more (Some n) = Some (suc n)
+one_more None = None
 
-place_first : (x : ℕ) (ks : List ℕ) (c : ℕ) → eqb x c ≡ true → place_of (x ∷ ks) c ≡ some 0
+place_first : (x : ℕ) (ks : List ℕ) (c : ℕ) → eqb x c ≡ true → place_of (x ∷ ks) c ≡ Some 0
 unfolding place_of
 place_first x ks c e = rw (place_of, e)
 
@@ -38,12 +29,12 @@ place_later : (x : ℕ) (ks : List ℕ) (c : ℕ) → eqb x c ≡ false → plac
 unfolding place_of one_more
 place_later x ks c e = rw (place_of, e)
 
-more_lt : (o : Option ℕ) (k n : ℕ) → one_more o ≡ some k → ((m : ℕ) → o ≡ some m → m < n) → k < suc n
+more_lt : (o : Option ℕ) (k n : ℕ) → one_more o ≡ Some k → ((m : ℕ) → o ≡ Some m → m < n) → k < suc n
 unfolding one_more
-more_lt (some m) k n e f = let q : suc m ≡ k = cc in omega (arith, f m refl)
-more_lt none k n e f = absurd (let z : ◌≡◌ {A = ℕ} 0 1 = cc in omega arith)
+more_lt (Some m) k n e f = let q : suc m ≡ k = cc in omega (arith, f m refl)
+more_lt None k n e f = absurd (let z : ◌≡◌ {A = ℕ} 0 1 = cc in omega arith)
 
-pub place_lt : (ks : List ℕ) (c k : ℕ) → place_of ks c ≡ some k → k < length ks
+pub place_lt : (ks : List ℕ) (c k : ℕ) → place_of ks c ≡ Some k → k < length ks
 unfolding place_of
 place_lt [] c k e = absurd (let z : ◌≡◌ {A = ℕ} 0 1 = cc in omega arith)
 place_lt (x ∷ ks) c k e =
@@ -66,8 +57,8 @@ module _ (i : Index) (row section : ℕ) where
   cell_no_column e = go (column_in (columns_of i.version) section) refl e
     where
       go : (o : Option ℕ) → column_in (columns_of i.version) section ≡ o → None ≡ found o → None ≡ cell_found (cell_of i row section)
-      go none p q = rw (cell_of, p)
-      go (some c) p q = absurd (let z : ◌≡◌ {A = ℕ} 0 1 = cc in omega arith)
+      go None p q = rw (cell_of, p)
+      go (Some c) p q = absurd (let z : ◌≡◌ {A = ℕ} 0 1 = cc in omega arith)
 
   module _ (code : ℕ) (c : Some code ≡ found (column_in (columns_of i.version) section)) where
     pub cell_by_place : cell_of i row section ≡ cell_at i row (place_of i.codes code)
@@ -75,26 +66,26 @@ module _ (i : Index) (row section : ℕ) where
     cell_by_place = go (column_in (columns_of i.version) section) refl c
       where
         go : (o : Option ℕ) → column_in (columns_of i.version) section ≡ o → Some code ≡ found o → cell_of i row section ≡ cell_at i row (place_of i.codes code)
-        go none p q = absurd (let z : ◌≡◌ {A = ℕ} 0 1 = cc in omega arith)
-        go (some d) p q = let s : code ≡ d = cc in rw (cell_of, p, s)
+        go None p q = absurd (let z : ◌≡◌ {A = ℕ} 0 1 = cc in omega arith)
+        go (Some d) p q = let s : code ≡ d = cc in rw (cell_of, p, s)
 
     pub cell_no_place : None ≡ found (place_of i.codes code) → None ≡ cell_found (cell_of i row section)
     unfolding cell_at cell_found
     cell_no_place e = go (place_of i.codes code) refl e
       where
         go : (o : Option ℕ) → place_of i.codes code ≡ o → None ≡ found o → None ≡ cell_found (cell_of i row section)
-        go none p q = rw (cell_by_place, p)
-        go (some d) p q = absurd (let z : ◌≡◌ {A = ℕ} 0 1 = cc in omega arith)
+        go None p q = rw (cell_by_place, p)
+        go (Some d) p q = absurd (let z : ◌≡◌ {A = ℕ} 0 1 = cc in omega arith)
 
     module _ (k : ℕ) (e : Some k ≡ found (place_of i.codes code)) where
-      pub place_is : place_of i.codes code ≡ some k
+      pub place_is : place_of i.codes code ≡ Some k
       place_is = go (place_of i.codes code) refl e
         where
-          go : (o : Option ℕ) → place_of i.codes code ≡ o → Some k ≡ found o → place_of i.codes code ≡ some k
-          go none p q = absurd (let z : ◌≡◌ {A = ℕ} 0 1 = cc in omega arith)
-          go (some d) p q = let s : k ≡ d = cc in rw s p
+          go : (o : Option ℕ) → place_of i.codes code ≡ o → Some k ≡ found o → place_of i.codes code ≡ Some k
+          go None p q = absurd (let z : ◌≡◌ {A = ℕ} 0 1 = cc in omega arith)
+          go (Some d) p q = let s : k ≡ d = cc in rw s p
 
-      pub cell_there : cell_of i row section ≡ cell_at i row (some k)
+      pub cell_there : cell_of i row section ≡ cell_at i row (Some k)
       cell_there = cell_by_place ∙ ap (cell_at i row) place_is
 
 -- what the proof of a row's cell cites

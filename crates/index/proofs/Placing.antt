@@ -1,12 +1,7 @@
 -- Placing: identities that are fewer than the slots always find a free slot, since an odd step visits every slot.
-use mathlib.Core.Path.{◌≡◌, refl, sym, ap, ◌∙◌}
-use mathlib.Core.List.{List}
-use Prim.Native.Nat.{ℕ, zero, suc, ◌+◌, ◌%◌, ◌<◌}
-use native.Mathlib.Nat.{not-suc-le-zero, le_of_suc-le-suc, mod-lt}
-use native.Mathlib.Omega.{arith}
+use Rattle.std.proofs.Common.{◌≡◌, refl, sym, ap, ◌∙◌, List, ℕ, zero, suc, ◌+◌, ◌%◌, ◌<◌, not-suc-le-zero, le_of_suc-le-suc, mod-lt, arith, length, get_or, set, length-set, eq-eqb, ne_eqb}
 use native.Mathlib.Decide.{ℕ_discrete}
-use lib.ListN.{length, get_or, set, length-set, length-replicate}
-use borrow.Author.Tests.{eq-eqb, ne_eqb}
+use lib.ListN.{length-replicate}
 use Rattle.octets.specs.Octets.{zeros}
 use Rattle.index.specs.Probing.{first_slot, stride, Slots, free_from, place, unused}
 use Rattle.index.proofs.Slots.{stride_odd}

@@ -1,17 +1,7 @@
 -- A test of a list's elements place by place, as a chain of the code's over the places makes it, is the test of the list.
-use mathlib.Core.Path.{◌≡◌, refl, sym, ap, ◌∙◌}
-use mathlib.Core.Bool.{Bool, true, false, cond}
-use mathlib.Core.List.{List, [], ◌∷◌}
-use mathlib.Core.Logic.{⊎_elim}
-use mathlib.Core.Option as math
-use Prim.Native.Nat.{ℕ, zero, suc, ◌+◌, ◌<◌, ◌≤◌}
-use native.Mathlib.Omega.{arith}
+use Rattle.std.proofs.Common.{◌≡◌, refl, sym, ap, ◌∙◌, Bool, true, false, cond, List, [], ◌∷◌, ⊎_elim, ℕ, zero, suc, ◌+◌, ◌<◌, ◌≤◌, arith, add-one, eqb, length, drop, get_or, drop_of_length-le, drop-cons, lt-ltb, le-ltb}
+use Rattle.std.specs.Prelude.{Option, Some, None}
 use native.Mathlib.Decide.{dec_lt}
-use native.Mathlib.Numerals.{add-one}
-use lib.Dec.{eqb}
-use lib.ListN.{length, drop, get_or, drop_of_length-le}
-use lib.Seq.{drop-cons}
-use borrow.Author.Tests.{lt-ltb, le-ltb}
 use Rattle.std.specs.Prelude.{Option, Some, None, nat_lt}
 use Rattle.std.specs.List.{list_all, list_any, range_with_len, position, position_or_len}
 use Rattle.std.proofs.lemmas.List.FromFn.{length-range_with_len}
@@ -26,7 +16,6 @@ module _ {A : Type 0} (t : A → Bool) (d : A) (xs : List A) where
   At k = t (get_or xs k d)
 
   pub all_places : (n a : ℕ) → a + n ≡ length xs → list_all At (range_with_len a n) ≡ all t (drop a xs)
-  unfolding all
   all_places zero a e = rw (drop_of_length-le xs (let h : length xs ≤ a = omega arith in h))
   all_places (suc n) a e =
       let r = all_places n (a + 1) (omega arith) in
@@ -37,7 +26,6 @@ module _ {A : Type 0} (t : A → Bool) (d : A) (xs : List A) where
       (known (At a)))
 
   pub any_places : (n a : ℕ) → a + n ≡ length xs → list_any At (range_with_len a n) ≡ any t (drop a xs)
-  unfolding any
   any_places zero a e = rw (drop_of_length-le xs (let h : length xs ≤ a = omega arith in h))
   any_places (suc n) a e =
       let r = any_places n (a + 1) (omega arith) in
@@ -54,28 +42,28 @@ module _ {A : Type 0} (t : A → Bool) (d : A) (xs : List A) where
       rw (drop-cons xs a d (omega arith)) (⊎_elim (λ p. rw p refl) (λ p. rw p (ap (λ (z : ℕ). 1 + z) r)) (known (At a)))
 
 -- ---- the place of a code
-one_more : math.Option ℕ → math.Option ℕ
-one_more (math.some n) = math.some (suc n)
-one_more math.none = math.none
+one_more : Option ℕ → Option ℕ
+one_more (Some n) = Some (suc n)
+one_more None = None
 
 -- a number that is found, as the library says it
 abbrev Below : ℕ → ℕ → Option ℕ
 Below n m = cond (nat_lt n m) (Some n) None
 
-below_more : (n m : ℕ) (o : math.Option ℕ) → Below n m ≡ found o → Below (1 + n) (suc m) ≡ found (one_more o)
+below_more : (n m : ℕ) (o : Option ℕ) → Below n m ≡ found o → Below (1 + n) (suc m) ≡ found (one_more o)
 unfolding one_more
 below_more n m o e = elim (dec_lt n m) [ yes h ↦ inside h o e | no h ↦ outside (omega arith) o e ]
   where
-    inside : n < m → (r : math.Option ℕ) → Below n m ≡ found r → Below (1 + n) (suc m) ≡ found (one_more r)
-    inside h math.none q = absurd (let t = rw (lt-ltb n m h) at q in let z : ◌≡◌ {A = ℕ} 0 1 = cc t in omega arith)
-    inside h (math.some r) q =
+    inside : n < m → (r : Option ℕ) → Below n m ≡ found r → Below (1 + n) (suc m) ≡ found (one_more r)
+    inside h None q = absurd (let t = rw (lt-ltb n m h) at q in let z : ◌≡◌ {A = ℕ} 0 1 = cc t in omega arith)
+    inside h (Some r) q =
         let t : Some n ≡ Some r = rw (lt-ltb n m h) at q in
         let same : n ≡ r = cc in
         rw (lt-ltb (1 + n) (suc m) (omega arith)) (ap (λ (z : ℕ). Some z) (omega arith))
 
-    outside : m ≤ n → (r : math.Option ℕ) → Below n m ≡ found r → Below (1 + n) (suc m) ≡ found (one_more r)
-    outside h math.none q = rw (le-ltb (1 + n) (suc m) (omega arith))
-    outside h (math.some r) q = absurd (let t = rw (le-ltb n m h) at q in let z : ◌≡◌ {A = ℕ} 0 1 = cc t in omega arith)
+    outside : m ≤ n → (r : Option ℕ) → Below n m ≡ found r → Below (1 + n) (suc m) ≡ found (one_more r)
+    outside h None q = rw (le-ltb (1 + n) (suc m) (omega arith))
+    outside h (Some r) q = absurd (let t = rw (le-ltb n m h) at q in let z : ◌≡◌ {A = ℕ} 0 1 = cc t in omega arith)
 
 place_position : (ks : List ℕ) (c : ℕ) → position (λ k. eqb k c) ks ≡ found (place_of ks c)
 unfolding place_of one_more

@@ -1,7 +1,5 @@
 -- A theorem of its own, which a reader may cite: whatever is wrong with an index, the refusal is 10.
-use mathlib.Core.Bool.{Bool}
-use mathlib.Core.List.{List}
-use Prim.Native.Nat.{ℕ}
+use Rattle.std.proofs.Common.{Bool, List, ℕ}
 use Rattle.numbers.specs.Refusals.{bad_index}
 use Rattle.octets.proofs.Refusals.{Only, only_pass, only_require, only_bind}
 use Rattle.index.specs.Index.{index_of}

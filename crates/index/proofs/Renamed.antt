@@ -1,9 +1,6 @@
 -- Slots under other numbers: where a search ends, and which slot is the first free one, depends only on which slots are unused.
-use mathlib.Core.Path.{◌≡◌, refl, sym, ap, ◌∙◌}
-use mathlib.Core.List.{List}
-use Prim.Native.Nat.{ℕ, zero, suc, ◌+◌, ◌%◌}
+use Rattle.std.proofs.Common.{◌≡◌, refl, sym, ap, ◌∙◌, List, ℕ, zero, suc, ◌+◌, ◌%◌, length, get_or}
 use native.Mathlib.Decide.{ℕ_discrete}
-use lib.ListN.{length, get_or}
 use Rattle.index.specs.Probing.{first_slot, stride, look, search, free_from}
 use Rattle.index.proofs.Placing.{free_here, free_on}
 use Rattle.index.proofs.LawLooks.{look_unused, look_found, look_on}

@@ -1,16 +1,9 @@
 -- An index written is read back: `index_of` of the bytes written gives the slots, the columns and the cells that went in.
-use mathlib.Core.Path.{◌≡◌, sym, ap, ◌∙◌}
-use mathlib.Core.Logic.{⊎_elim}
-use mathlib.Core.Bool.{Bool, true, false, ◌&&◌, ◌||◌}
-use mathlib.Core.List.{List, [], ◌∷◌}
-use Prim.Native.Nat.{ℕ, zero, suc, ◌+◌, ◌*◌, ◌^◌, ◌<◌, ◌≤◌}
-use native.Mathlib.Omega.{arith}
+use Rattle.std.proofs.Common.{◌≡◌, sym, ap, ◌∙◌, ⊎_elim, Bool, true, false, ◌&&◌, ◌||◌, List, [], ◌∷◌, ℕ, zero, suc, ◌+◌, ◌*◌, ◌^◌, ◌<◌, ◌≤◌, arith, eqb, leb, ltb, length, get_or, le-leb, leb-true, lt-ltb, eq-eqb}
 use native.Mathlib.Decide.{dec_lt}
-use lib.Dec.{eqb, leb, ltb}
-use lib.ListN.{length, get_or, length-map, get_or-eq_default}
-use borrow.Author.Tests.{le-leb, leb-true, lt-ltb, eq-eqb}
+use lib.ListN.{length-map, get_or-eq_default}
 use Rattle.octets.specs.Lists.{all, any, distinct}
-use Rattle.octets.specs.Checked.{pass}
+use Rattle.std.specs.Prelude.{Ok}
 use Rattle.octets.proofs.Checks.{true_false, known, and_both, and_right}
 use Rattle.octets.proofs.Lists.{length_those}
 use Rattle.octets.proofs.Elements.{all_at}
@@ -158,7 +151,7 @@ module _ (big : Bool) (version : ℕ) (rs : List Row) (t : Slots) (fits : RowsFi
   unfolding written
   slots_are_good = rw (← same_length) (placed_good n (identities_of rs) t placed nonzero)
 
-  pub round_trip : index_of big (index_with big version (present_columns version rs) rs t) ≡ pass (written version rs t)
+  pub round_trip : index_of big (index_with big version (present_columns version rs) rs t) ≡ Ok (written version rs t)
   round_trip =
       let count = count_read big version columns rs t n identities_are rows_are counts_fit in
       let l = length_index big version columns rs t n identities_are rows_are in
@@ -172,4 +165,4 @@ module _ (big : Bool) (version : ℕ) (rs : List Row) (t : Slots) (fits : RowsFi
       (eq-eqb (length bytes) (16 + 12 * n + 4 * length columns + 8 * (length rs * length columns)) l)
       (rw layout_is codes_good)
       (rw layout_is slots_are_good)
-      ∙ ap pass layout_is
+      ∙ ap Ok layout_is

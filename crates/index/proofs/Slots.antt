@@ -1,13 +1,8 @@
 -- The number of slots: a power of two, above the number of units, at most three times as large. Strides are odd.
-use mathlib.Core.Path.{◌≡◌, refl, sym, ap, ◌∙◌}
-use mathlib.Core.Logic.{◌⊎◌, inl, inr, ⊎_elim}
-use Prim.Native.Nat.{ℕ, zero, suc, ◌+◌, ◌*◌, ◌-◌, ◌/◌, ◌%◌, ◌^◌, min, max, ◌<◌, ◌≤◌}
-use native.Mathlib.Nat.{pow-le-pow_right, one-mul, mul-one, mul-le-mul_right, pow-succ', not-suc-le-zero, le_of_suc-le-suc}
-use native.Mathlib.Omega.{arith}
+use Rattle.std.proofs.Common.{◌≡◌, refl, sym, ap, ◌∙◌, ◌⊎◌, inl, inr, ⊎_elim, ℕ, zero, suc, ◌+◌, ◌*◌, ◌-◌, ◌/◌, ◌%◌, ◌^◌, min, max, ◌<◌, ◌≤◌, one-mul, mul-one, mul-le-mul_right, not-suc-le-zero, le_of_suc-le-suc, arith, pow_pos, lt-ltb, le-ltb}
+use native.Mathlib.Nat.{pow-le-pow_right, pow-succ'}
 use native.Mathlib.Decide.{dec_le, dec_lt}
 use lib.Bits.{bit_and}
-use lib.Pow.{pow_pos}
-use borrow.Author.Tests.{lt-ltb, le-ltb}
 use Rattle.std.specs.Int.{IsPowerOfTwo}
 use Rattle.index.specs.Index.{power_from, least_power}
 use Rattle.index.specs.Probing.{stride, slots_for}

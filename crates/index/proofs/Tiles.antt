@@ -1,18 +1,10 @@
 -- 34: parts that tile a section, as definition and by the three faults that are refused; and the parts that rows name.
-use mathlib.Core.Path.{◌≡◌, refl, sym, ap, ap₂, ◌∙◌, subst}
-use mathlib.Core.Logic.{◌⊎◌, inl, inr, ⊎_elim}
-use mathlib.Core.Bool.{Bool, true, false}
-use mathlib.Core.List.{List, [], ◌∷◌, ◌++◌, map}
-use mathlib.Core.Option.{Option, some, none}
-use Prim.Native.Nat.{ℕ, zero, suc, ◌+◌, ◌<◌, ◌≤◌}
-use native.Mathlib.Omega.{arith}
+use Rattle.std.proofs.Common.{◌≡◌, refl, sym, ap, ap₂, ◌∙◌, subst, ◌⊎◌, inl, inr, ⊎_elim, Bool, true, false, List, [], ◌∷◌, ◌++◌, map, ℕ, zero, suc, ◌+◌, ◌<◌, ◌≤◌, arith, eqb, leb, length, drop, length-drop, length-append, drop_of_length-le, eqb-true, eq-eqb, ne_eqb, le-leb, leb-true}
+use Rattle.std.specs.Prelude.{Option, Some, None, Ok}
 use native.Mathlib.Decide.{dec_lt}
-use lib.Dec.{eqb, leb}
-use lib.ListN.{length, drop, length-drop, length-append, drop_of_length-le}
-use borrow.Author.Tests.{eqb-true, eqb-false, eq-eqb, ne_eqb, le-leb, leb-true}
+use borrow.Author.Tests.{eqb-false}
 use Rattle.octets.specs.Octets.{part}
 use Rattle.octets.specs.Lists.{joined, all, any, has}
-use Rattle.octets.specs.Checked.{pass}
 use Rattle.octets.proofs.Checks.{bind_pass, require_pass, passes, then_pass, pass_inj, pass_refuse, known, true_false, and_both, and_left, and_right}
 use Rattle.octets.proofs.Lists.{all_head, all_tail, all_cons, any_stops, any_more, any_cases}
 use Rattle.octets.proofs.Parts.{length_part, drop_part}
@@ -50,7 +42,7 @@ unfolding is_one
 one_cases c d cs e = ⊎_elim (λ p. inl (same_parts_law c d p)) (λ p. inr p) (any_cases (same_parts c) d cs e)
 
 pub one_none : (c : Contribution) → is_one [] c ≡ true → ⊥
-unfolding is_one any
+unfolding is_one
 one_none c e = true_false e refl
 
 pub one_left : (cs ds : List Contribution) (c : Contribution) → is_one cs c ≡ true → is_one (cs ++ ds) c ≡ true
@@ -76,11 +68,11 @@ one_stands (d ∷ cs) c e = ⊎_elim
     (λ p. let r = one_stands cs c p in (d ∷ r.0, r.1, ap (λ (l : List Contribution). d ∷ l) r.2))
     (one_cases c d cs e)
 
-abbrev pub Some : List Contribution → Type 0
-Some cs = (c : Contribution) → is_one cs c ≡ true → 1 ≤ c.size
+abbrev pub NonEmpty : List Contribution → Type 0
+NonEmpty cs = (c : Contribution) → is_one cs c ≡ true → 1 ≤ c.size
 
 -- ---- the part that starts at a place
-pub starts_here : (c : Contribution) (cs : List Contribution) (at : ℕ) → c.offset ≡ at → starts_at (c ∷ cs) at ≡ some c.size
+pub starts_here : (c : Contribution) (cs : List Contribution) (at : ℕ) → c.offset ≡ at → starts_at (c ∷ cs) at ≡ Some c.size
 unfolding starts_at
 starts_here c cs at e = rw (starts_at, eq-eqb c.offset at e)
 
@@ -88,7 +80,7 @@ pub starts_later : (c : Contribution) (cs : List Contribution) (at : ℕ) → (c
 unfolding starts_at
 starts_later c cs at e = rw (starts_at, ne_eqb c.offset at e)
 
-pub starts_one : (cs : List Contribution) (at n : ℕ) → starts_at cs at ≡ some n → is_one cs (record { offset = at; size = n }) ≡ true
+pub starts_one : (cs : List Contribution) (at n : ℕ) → starts_at cs at ≡ Some n → is_one cs (record { offset = at; size = n }) ≡ true
 unfolding starts_at
 starts_one [] at n e = some_none (sym e)
 starts_one (c ∷ cs) at n e = ⊎_elim
@@ -99,7 +91,7 @@ starts_one (c ∷ cs) at n e = ⊎_elim
     (λ (t : eqb c.offset at ≡ false). one_later _ c cs (starts_one cs at n (sym (starts_later c cs at (eqb-false c.offset at t)) ∙ e)))
     (known (eqb c.offset at))
 
-pub one_starts : (cs : List Contribution) (c : Contribution) → is_one cs c ≡ true → (n : ℕ) × (starts_at cs c.offset ≡ some n)
+pub one_starts : (cs : List Contribution) (c : Contribution) → is_one cs c ≡ true → (n : ℕ) × (starts_at cs c.offset ≡ Some n)
 one_starts [] c e = absurd (one_none c e)
 one_starts (d ∷ cs) c e = ⊎_elim
     (λ (t : eqb d.offset c.offset ≡ true). (d.size, starts_here d cs c.offset (eqb-true d.offset c.offset t)))
@@ -134,7 +126,7 @@ unfoldable pub part_of : List ℕ → Contribution → List ℕ
 part_of s c = part s c.offset c.size
 
 pub tiling_joined : (s : List ℕ) (at : ℕ) (ts : List Contribution) → Tiling at (length s) ts → joined (map (part_of s) ts) ≡ drop at s
-unfolding Tiling joined part_of
+unfolding Tiling part_of
 tiling_joined s at [] r = let h : length s ≤ at = omega (arith, r) in sym (drop_of_length-le s h)
 tiling_joined s at (t ∷ ts) r =
     ap (λ (l : List ℕ). part s t.offset t.size ++ l) (tiling_joined s (at + t.size) ts r.2)
@@ -148,7 +140,7 @@ length_part_of s c h = length_part s c.offset c.size h
 -- and a part begins behind the bytes of those before it
 pub tiling_before : (s : List ℕ) (at : ℕ) (before : List Contribution) (c : Contribution) (behind : List Contribution) → Tiling at (length s) (before ++ (c ∷ behind))
     → at + length (joined (map (part_of s) before)) ≡ c.offset
-unfolding Tiling joined
+unfolding Tiling
 tiling_before s at [] c behind r = omega (arith, r.0)
 tiling_before s at (t ∷ before) c behind r =
     let e = tiling_end (at + t.size) (length s) (before ++ (c ∷ behind)) r.2 in
@@ -159,26 +151,26 @@ from_start n ts t = let z : 0 + n ≡ n = omega arith in subst (λ (m : ℕ). Ti
 
 -- ---- the walk
 -- a turn
-pub tiles_turn : (k : ℕ) (cs : List Contribution) (at b : ℕ) (s : List ℕ) (n : ℕ) (ts : List Contribution) → starts_at cs at ≡ some n → n ≤ length (b ∷ s)
-    → tiles_from k cs (at + n) (drop n (b ∷ s)) ≡ pass ts → tiles_from (suc k) cs at (b ∷ s) ≡ pass (record { offset = at; size = n } ∷ ts)
+pub tiles_turn : (k : ℕ) (cs : List Contribution) (at b : ℕ) (s : List ℕ) (n : ℕ) (ts : List Contribution) → starts_at cs at ≡ Some n → n ≤ length (b ∷ s)
+    → tiles_from k cs (at + n) (drop n (b ∷ s)) ≡ Ok ts → tiles_from (suc k) cs at (b ∷ s) ≡ Ok (record { offset = at; size = n } ∷ ts)
 unfolding tiles_from
 tiles_turn k cs at b s n ts e h q = rw (tiles_from, e) (passes (leb n (length (b ∷ s))) 34 _ (le-leb n (length (b ∷ s)) h) ∙ then_pass _ _ ts q)
 
-module _ (cs : List Contribution) (few : Some cs) where
+module _ (cs : List Contribution) (few : NonEmpty cs) where
   pub record Walked (at n : ℕ) (ts : List Contribution) : Type 0 where
     pub tiling : Tiling at n ts
     pub ones : (c : Contribution) → is_one ts c ≡ true → is_one cs c ≡ true
 
-  pub tiles_walked : (k at : ℕ) (s : List ℕ) (ts : List Contribution) → tiles_from k cs at s ≡ pass ts → Walked at (at + length s) ts
+  pub tiles_walked : (k at : ℕ) (s : List ℕ) (ts : List Contribution) → tiles_from k cs at s ≡ Ok ts → Walked at (at + length s) ts
   unfolding tiles_from Tiling
   tiles_walked zero at s ts q = absurd (pass_refuse ts 34 (sym q))
   tiles_walked (suc k) at [] ts q = subst (Walked at (at + 0)) (pass_inj q) (record { tiling = omega arith; ones = λ c e. absurd (one_none c e) })
   tiles_walked (suc k) at (b ∷ s) ts q = go (starts_at cs at) refl (λ n. tiles_walked k (at + n) (drop n (b ∷ s)))
     where
-      go : (o : Option ℕ) → starts_at cs at ≡ o → ((n : ℕ) (us : List Contribution) → tiles_from k cs (at + n) (drop n (b ∷ s)) ≡ pass us → Walked (at + n) (at + n + length (drop n (b ∷ s))) us)
+      go : (o : Option ℕ) → starts_at cs at ≡ o → ((n : ℕ) (us : List Contribution) → tiles_from k cs (at + n) (drop n (b ∷ s)) ≡ Ok us → Walked (at + n) (at + n + length (drop n (b ∷ s))) us)
           → Walked at (at + length (b ∷ s)) ts
-      go none e on = absurd (pass_refuse ts 34 (sym (rw (tiles_from, e) at q)))
-      go (some n) e on =
+      go None e on = absurd (pass_refuse ts 34 (sym (rw (tiles_from, e) at q)))
+      go (Some n) e on =
           let r = require_pass (leb n (length (b ∷ s))) 34 _ ts (rw (tiles_from, e) at q) in
           let us = bind_pass (tiles_from k cs (at + n) (drop n (b ∷ s))) _ ts r.1 in
           let w = on n us.0 us.1 in
@@ -197,7 +189,7 @@ module _ (cs : List Contribution) (few : Some cs) where
     pub ones : (c : Contribution) → is_one ts c ≡ true → is_one cs c ≡ true
     pub each : (c : Contribution) → is_one cs c ≡ true → is_one ts c ≡ true
 
-  pub tiles_facts : (s : List ℕ) (ts : List Contribution) → tiles cs s ≡ pass ts → Tiles (length s) ts
+  pub tiles_facts : (s : List ℕ) (ts : List Contribution) → tiles cs s ≡ Ok ts → Tiles (length s) ts
   unfolding tiles is_one
   tiles_facts s ts q =
       let r = bind_pass (tiles_from (suc (length s)) cs 0 s) _ ts q in
@@ -241,7 +233,7 @@ tiling_covered at n (t ∷ ts) r p h g = elim (dec_lt p (at + t.size)) [
   | no l ↦ (let w = tiling_covered (at + t.size) n ts r.2 p (omega arith) g in (w.0, one_later w.0 t ts w.1, w.2, w.3))
 ]
 
-module _ (cs : List Contribution) (few : Some cs) where
+module _ (cs : List Contribution) (few : NonEmpty cs) where
   pub facts_tiled : (n : ℕ) (ts : List Contribution) → Tiles cs few n ts → Tiled cs n
   facts_tiled n ts f = record {
     inside = λ c e. (tiling_within 0 n ts c f.tiling (f.each c e)).1;
@@ -249,14 +241,14 @@ module _ (cs : List Contribution) (few : Some cs) where
     covered = λ p h. let w = tiling_covered 0 n ts f.tiling p (omega arith) h in (w.0, f.ones w.0 w.1, w.2, w.3);
   }
 
-  pub tiles_tiled : (s : List ℕ) (ts : List Contribution) → tiles cs s ≡ pass ts → Tiled cs (length s)
+  pub tiles_tiled : (s : List ℕ) (ts : List Contribution) → tiles cs s ≡ Ok ts → Tiled cs (length s)
   tiles_tiled s ts q = facts_tiled (length s) ts (tiles_facts cs few s ts q)
 
   -- no part straddles a place
   abbrev Between : ℕ → Type 0
   Between at = (c : Contribution) → is_one cs c ≡ true → (c.offset + c.size ≤ at) ⊎ (at ≤ c.offset)
 
-  walks : (n : ℕ) → Tiled cs n → (k at : ℕ) (s : List ℕ) → at + length s ≡ n → length s < k → Between at → (ts : List Contribution) × (tiles_from k cs at s ≡ pass ts)
+  walks : (n : ℕ) → Tiled cs n → (k at : ℕ) (s : List ℕ) → at + length s ≡ n → length s < k → Between at → (ts : List Contribution) × (tiles_from k cs at s ≡ Ok ts)
   unfolding tiles_from
   walks n t zero at s e h b = absurd (omega arith)
   walks n t (suc k) at [] e h b = ([], refl)
@@ -265,7 +257,7 @@ module _ (cs : List Contribution) (few : Some cs) where
       let own : c.0.offset ≡ at = ⊎_elim (λ l. absurd (omega (arith, l, c.3))) (λ l. omega (arith, l, c.2)) (b c.0 c.1) in
       let w = one_starts cs c.0 c.1 in
       let m = w.0 in
-      let starts : starts_at cs at ≡ some m = ap (starts_at cs) (sym own) ∙ w.1 in
+      let starts : starts_at cs at ≡ Some m = ap (starts_at cs) (sym own) ∙ w.1 in
       let it : Contribution = record { offset = at; size = m } in
       let one = starts_one cs at m starts in
       let fits = t.inside it one in
@@ -274,7 +266,7 @@ module _ (cs : List Contribution) (few : Some cs) where
       (λ d f. ⊎_elim (λ (z : d ≡ it). inl (rw z (omega arith))) (λ z. ⊎_elim (λ l. inl (omega (arith, l))) (λ l. inr l) z) (t.apart d it f one)) in
       (it ∷ r.0, tiles_turn k cs at x s m r.0 starts (omega (arith, e, fits)) r.1)
 
-  pub tiled_tiles : (s : List ℕ) → Tiled cs (length s) → (ts : List Contribution) × (tiles cs s ≡ pass ts)
+  pub tiled_tiles : (s : List ℕ) → Tiled cs (length s) → (ts : List Contribution) × (tiles cs s ≡ Ok ts)
   unfolding tiles
   tiled_tiles s t =
       let r = walks (length s) t (suc (length s)) 0 s (omega arith) (omega arith) (λ c e. inr (omega arith)) in
@@ -288,7 +280,7 @@ module _ (cs : List Contribution) (few : Some cs) where
       (r.0, then_pass _ _ r.0 r.1 ∙ passes (all (λ c. any (same_parts c) r.0) cs) 34 _ (one_all r.0 cs there))
     where
       one_all : (ts ds : List Contribution) → ((c : Contribution) → is_one ds c ≡ true → is_one ts c ≡ true) → all (λ c. any (same_parts c) ts) ds ≡ true
-      one_all ts [] f = unfold all in refl
+      one_all ts [] f = refl
       one_all ts (d ∷ ds) f = all_cons (λ c. any (same_parts c) ts) d ds (unfold is_one in (f d (one_here d d ds refl))) ∙ one_all ts ds (λ c e. f c (one_later c d ds e))
 
 -- no other number
@@ -299,47 +291,47 @@ walk_only (suc k) cs at [] = only_pass 34 _
 walk_only (suc k) cs at (b ∷ s) = go (starts_at cs at) refl (λ n. walk_only k cs (at + n) (drop n (b ∷ s)))
   where
     go : (o : Option ℕ) → starts_at cs at ≡ o → ((n : ℕ) → Only 34 (tiles_from k cs (at + n) (drop n (b ∷ s)))) → Only 34 (tiles_from (suc k) cs at (b ∷ s))
-    go none e on = rw (tiles_from, e) (only_refuse 34)
-    go (some n) e on = rw (tiles_from, e) (only_bind 34 _ _ (only_require _ 34) (λ _. only_bind 34 _ _ (on n) (λ ts. only_pass 34 _)))
+    go None e on = rw (tiles_from, e) (only_refuse 34)
+    go (Some n) e on = rw (tiles_from, e) (only_bind 34 _ _ (only_require _ 34) (λ _. only_bind 34 _ _ (on n) (λ ts. only_pass 34 _)))
 
 pub tiles_only : (cs : List Contribution) (s : List ℕ) → Only 34 (tiles cs s)
 unfolding tiles
 tiles_only cs s = only_bind 34 _ _ (walk_only (suc (length s)) cs 0 s) (λ ts. only_bind 34 _ _ (only_require _ 34) (λ _. only_pass 34 _))
 
 -- ---- the parts that rows name
-in_some : (o : Option Contribution) → Some (named_in o)
+in_some : (o : Option Contribution) → NonEmpty (named_in o)
 unfolding named_in not_empty
-in_some none c e = absurd (one_none c e)
-in_some (some d) c e = ⊎_elim
+in_some None c e = absurd (one_none c e)
+in_some (Some d) c e = ⊎_elim
     (λ (t : leb 1 d.size ≡ true). ⊎_elim (λ (p : c ≡ d). rw p (leb-true 1 d.size t)) (λ p. absurd (one_none c p)) (one_cases c d [] (rw (named_in, not_empty, t) at e)))
     (λ (t : leb 1 d.size ≡ false). absurd (one_none c (rw (named_in, not_empty, t) at e)))
     (known (leb 1 d.size))
 
-by_some : (i : Index) (rs : List ℕ) → Some (named_by i rs)
+by_some : (i : Index) (rs : List ℕ) → NonEmpty (named_by i rs)
 unfolding named_by
 by_some i [] c e = absurd (one_none c e)
 by_some i (r ∷ rs) c e = ⊎_elim (λ p. in_some (cell_of i r 6) c p) (λ p. by_some i rs c p) (one_either (named_in (cell_of i r 6)) (named_by i rs) c e)
 
-pub named_some : (o : Option Index) → Some (named o)
+pub named_some : (o : Option Index) → NonEmpty (named o)
 unfolding named
-named_some none c e = absurd (one_none c e)
-named_some (some i) c e = by_some i (row_numbers i.units) c e
+named_some None c e = absurd (one_none c e)
+named_some (Some i) c e = by_some i (row_numbers i.units) c e
 
-pub both_some : (cu tu : Option Index) → Some (named cu ++ named tu)
+pub both_some : (cu tu : Option Index) → NonEmpty (named cu ++ named tu)
 both_some cu tu c e = ⊎_elim (λ p. named_some cu c p) (λ p. named_some tu c p) (one_either (named cu) (named tu) c e)
 
-in_one : (o : Option Contribution) (c : Contribution) → o ≡ some c → 1 ≤ c.size → is_one (named_in o) c ≡ true
+in_one : (o : Option Contribution) (c : Contribution) → o ≡ Some c → 1 ≤ c.size → is_one (named_in o) c ≡ true
 unfolding named_in not_empty
 in_one o c e h = rw (e, named_in, not_empty, le-leb 1 c.size h) (one_here c c [] refl)
 
-by_one : (i : Index) (rs : List ℕ) (r : ℕ) (c : Contribution) → has rs r ≡ true → cell_of i r 6 ≡ some c → 1 ≤ c.size → is_one (named_by i rs) c ≡ true
-unfolding named_by has any
+by_one : (i : Index) (rs : List ℕ) (r : ℕ) (c : Contribution) → has rs r ≡ true → cell_of i r 6 ≡ Some c → 1 ≤ c.size → is_one (named_by i rs) c ≡ true
+unfolding named_by has
 by_one i [] r c h e l = absurd (true_false h refl)
 by_one i (x ∷ rs) r c h e l = ⊎_elim
     (λ (p : eqb r x ≡ true). one_left (named_in (cell_of i x 6)) (named_by i rs) c (in_one (cell_of i x 6) c (ap (λ (n : ℕ). cell_of i n 6) (sym (eqb-true r x p)) ∙ e) l))
     (λ p. one_right (named_in (cell_of i x 6)) (named_by i rs) c (by_one i rs r c p e l))
     (any_cases (eqb r) x rs h)
 
-pub named_one : (i : Index) (r : ℕ) (c : Contribution) → has (row_numbers i.units) r ≡ true → cell_of i r 6 ≡ some c → 1 ≤ c.size → is_one (named (some i)) c ≡ true
+pub named_one : (i : Index) (r : ℕ) (c : Contribution) → has (row_numbers i.units) r ≡ true → cell_of i r 6 ≡ Some c → 1 ≤ c.size → is_one (named (Some i)) c ≡ true
 unfolding named
 named_one i r c h e l = by_one i (row_numbers i.units) r c h e l

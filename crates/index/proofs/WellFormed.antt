@@ -1,19 +1,12 @@
 -- The tests of an index in their order: the answer where each one fails, and where all pass.
 -- ---- the front
-use mathlib.Core.Path.{◌≡◌, refl, sym, ap, ◌∙◌}
-use mathlib.Core.Bool.{Bool, true, false, not, ◌&&◌, ◌||◌}
-use mathlib.Core.List.{List, map}
-use mathlib.Core.Logic.{⊎_elim}
-use Prim.Native.Nat.{ℕ, ◌+◌, ◌*◌, ◌<◌, ◌≤◌}
-use native.Mathlib.Omega.{arith}
-use lib.Dec.{eqb, leb, ltb}
-use lib.ListN.{length}
-use borrow.Author.Tests.{le-leb, lt-leb, eqb-true}
+use Rattle.std.proofs.Common.{◌≡◌, refl, sym, ap, ◌∙◌, Bool, true, false, not, ◌&&◌, ◌||◌, List, map, ⊎_elim, ℕ, ◌+◌, ◌*◌, ◌<◌, ◌≤◌, arith, eqb, leb, ltb, length, le-leb, eqb-true}
+use borrow.Author.Tests.{lt-leb}
 use Rattle.std.specs.Prelude as std
-use Rattle.std.specs.Prelude.{Some, None, if◌then◌else◌}
+use Rattle.std.specs.Prelude.{Some, None, if◌then◌else◌, Result, Ok, Err}
 use Rattle.octets.specs.Octets.{number_at}
 use Rattle.octets.specs.Lists.{all, distinct}
-use Rattle.octets.specs.Checked.{Check, pass, refuse, require, ◌>>=◌}
+use Rattle.octets.specs.Checked.{require, ◌>>=◌}
 use Rattle.octets.proofs.Checks.{true_false, known}
 use Rattle.index.specs.Columns.{columns_of, columns_four, columns_five}
 use Rattle.index.specs.Cells.{column_place}
@@ -121,7 +114,7 @@ front_sized big s e =
     last true true true true false t e = absurd (true_false e refl)
 
 -- ---- all tests in a row
-chain : {B : Type 0} (l v c u p n k d z : Bool) (f : Unit {0} → Check B)
+chain : {B : Type 0} (l v c u p n k d z : Bool) (f : Unit {0} → Result B ℕ)
     → (require l 10 >>= λ _. require v 10 >>= λ _. require c 10 >>= λ _. require (u && p) 10 >>= λ _. require n 10 >>= λ _. require (k && d) 10 >>= λ _. require z 10 >>= f)
     ≡ (require (l && v && (c && u && p && n)) 10 >>= λ _. require (k && d && z) 10 >>= f)
 unfolding ◌>>=◌ require
@@ -137,7 +130,7 @@ chain true true true true true true true false z f = refl
 
 module _ (big : Bool) (s : List ℕ) where
   tests : index_of big s ≡ (require (front_good big s) 10 >>= λ _. (let h = stated big s in let i = index_in big s h in
-      require (all (code_good h.version) i.codes && distinct i.codes && slots_good h.units i.identities i.rows) 10 >>= λ _. pass i))
+      require (all (code_good h.version) i.codes && distinct i.codes && slots_good h.units i.identities i.rows) 10 >>= λ _. Ok i))
   unfolding index_of front_good head_good stated index_in
   tests =
       rw (← version_known big s)
@@ -145,7 +138,7 @@ module _ (big : Bool) (s : List ℕ) where
       (eqb (least_power (number_at big 4 s 12)) (number_at big 4 s 12)) _
       (all (code_good (version_of big s)) (index_in big s (stated big s)).codes) (distinct (index_in big s (stated big s)).codes) _ _)
 
-  pub index_front : front_good big s ≡ false → refuse 10 ≡ index_of big s
+  pub index_front : front_good big s ≡ false → Err 10 ≡ index_of big s
   unfolding ◌>>=◌ require
   index_front e = sym (tests ∙ rw e refl)
 
@@ -157,25 +150,25 @@ module _ (big : Bool) (s : List ℕ) where
     front : (front_good big s ≡ true) × (h ≡ stated big s)
     front = named_some big s h e
 
-    tested : index_of big s ≡ (require (all (code_good I.version) I.codes && distinct I.codes && slots_good I.units I.identities I.rows) 10 >>= λ _. pass I)
+    tested : index_of big s ≡ (require (all (code_good I.version) I.codes && distinct I.codes && slots_good I.units I.identities I.rows) 10 >>= λ _. Ok I)
     unfolding ◌>>=◌ require index_in layout
     tested = tests ∙ rw (front.0, ← front.1) refl
 
     module _ (codes : true ≡ all (code_good I.version) I.codes) where
       module _ (apart : true ≡ distinct I.codes) where
-        pub index_good : true ≡ slots_good I.units I.identities I.rows → pass I ≡ index_of big s
+        pub index_good : true ≡ slots_good I.units I.identities I.rows → Ok I ≡ index_of big s
         unfolding ◌>>=◌ require
         index_good g = sym (tested ∙ rw (← codes, ← apart, ← g) refl)
 
-        pub index_slots : false ≡ slots_good I.units I.identities I.rows → refuse 10 ≡ index_of big s
+        pub index_slots : false ≡ slots_good I.units I.identities I.rows → Err 10 ≡ index_of big s
         unfolding ◌>>=◌ require
         index_slots g = sym (tested ∙ rw (← codes, ← apart, ← g) refl)
 
-      pub index_apart : false ≡ distinct I.codes → refuse 10 ≡ index_of big s
+      pub index_apart : false ≡ distinct I.codes → Err 10 ≡ index_of big s
       unfolding ◌>>=◌ require
       index_apart g = sym (tested ∙ rw (← codes, ← g) refl)
 
-    pub index_codes : false ≡ all (code_good I.version) I.codes → refuse 10 ≡ index_of big s
+    pub index_codes : false ≡ all (code_good I.version) I.codes → Err 10 ≡ index_of big s
     unfolding ◌>>=◌ require
     index_codes g = sym (tested ∙ rw (← g) refl)
 

@@ -1,6 +1,6 @@
 -- The code's forms of a column and of a cell.
 use Rattle.std.specs.Prelude as std
-use Rattle.std.proofs.Math.Option.{Option, some, none}
+use Rattle.std.specs.Prelude.{Option, Some, None}
 use Rattle.index.specs.Columns.{Column}
 use Rattle.index.specs.Index as definition
 use Rattle.index.specs.declared.cells.ColumnPlace.{ColumnPlace}
@@ -10,5 +10,5 @@ unfoldable pub column_place : Column → ColumnPlace
 column_place c = record { section = c.section; column = c.column }
 
 unfoldable pub cell_found : Option definition.Contribution → std.Option Contribution
-cell_found (some c) = std.Some (record { offset = c.offset; size = c.size })
-cell_found none = std.None
+cell_found (Some c) = std.Some (record { offset = c.offset; size = c.size })
+cell_found None = std.None

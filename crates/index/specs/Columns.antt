@@ -1,6 +1,5 @@
 -- Which sections an index has columns for, in the order in which they are written, by its form (FORMAT 5.2).
-use Rattle.std.specs.Prelude.{true, false, List, [], ◌∷◌, ℕ, ◌==◌, if◌then◌else◌}
-use Rattle.std.proofs.Math.Option.{Option, some, none}
+use Rattle.std.specs.Prelude.{true, false, List, [], ◌∷◌, ℕ, ◌==◌, if◌then◌else◌, Option, Some, None}
 use Rattle.numbers.specs.Tables.{index5}
 use Rattle.numbers.specs.Sections.{info_code, types_code, abbrev_code, line_code, loc_code, str_offsets_code, macinfo_code, macro_code, loclists_code, rnglists_code}
 
@@ -29,5 +28,5 @@ unfoldable pub columns_of : ℕ → List Column
 columns_of version = if version == index5 then columns_five else columns_four
 
 unfoldable pub column_in : List Column → ℕ → Option ℕ
-column_in [] section = none
-column_in (c ∷ cs) section = if c.section == section then some c.column else column_in cs section
+column_in [] section = None
+column_in (c ∷ cs) section = if c.section == section then Some c.column else column_in cs section

@@ -1,11 +1,8 @@
 -- Contributions as the code holds them, by section code in an array.
-use Rattle.std.specs.Prelude.{◌≡◌, Bool, true, false, not, ◌&&◌, ◌||◌, List, ℕ, ◌+◌, ◌%◌, length, set, ◌==◌, nat_le, slice_index, slice_index_or, if◌then◌else◌}
-use Rattle.std.proofs.Math.Option.{Option, none}
+use Rattle.std.specs.Prelude.{◌≡◌, Bool, true, false, not, ◌&&◌, ◌||◌, List, ℕ, ◌+◌, ◌%◌, length, set, ◌==◌, nat_le, slice_index, slice_index_or, if◌then◌else◌, Option, Some, None, Result, Ok, Err}
 use Rattle.numbers.specs.Sections.{str_offsets_code, section_codes}
-use Rattle.octets.specs.Checked.{Check, pass, refuse}
 use Rattle.octets.specs.Lists.{has}
 use Rattle.std.specs.Prelude as std
-use Rattle.std.specs.Prelude.{Some, None, Result, Ok, Err}
 use Rattle.numbers.specs.Refused.{number_of}
 use Rattle.numbers.specs.declared.refusals.Refusal.{Refusal}
 use Rattle.index.specs.Index.{Index, Contribution}
@@ -65,15 +62,15 @@ with_cell k c n cell = if n == 0 then k else record { cells = set k.cells c cell
 
 -- a contribution for each shared section that is not empty
 unfoldable pub chosen : BySection ℕ → BySection (Option Contribution) → BySection (Option Contribution)
-chosen lengths f s = if has (needed_codes lengths) s then f s else none
+chosen lengths f s = if has (needed_codes lengths) s then f s else None
 
 -- the row of a unit by value
-unfoldable pub judged_row : Index → Measures → OwnUnit → Check (BySection (Option Contribution))
+unfoldable pub judged_row : Index → Measures → OwnUnit → Result (BySection (Option Contribution)) ℕ
 judged_row i m u = row_contributions i m.width (by_code m.lengths) u.identity u.home u.at u.size
 
 -- an answer of the code's is that of a check
-unfoldable pub Answers : Result Contributions Refusal → Check (BySection (Option Contribution)) → Type 0
-Answers (Ok k) (pass f) = ContributionsAre k f
-Answers (Err r) (refuse n) = number_of r ≡ n
-Answers (Ok k) (refuse n) = ⊥
-Answers (Err r) (pass f) = ⊥
+unfoldable pub Answers : Result Contributions Refusal → Result (BySection (Option Contribution)) ℕ → Type 0
+Answers (Ok k) (Ok f) = ContributionsAre k f
+Answers (Err r) (Err n) = number_of r ≡ n
+Answers (Ok k) (Err n) = ⊥
+Answers (Err r) (Ok f) = ⊥

@@ -4,9 +4,9 @@ use native.Mathlib.Decide.{dec_lt}
 use mathlib.Core.Path.{ap, subst}
 use Rattle.std.proofs.Math.Pow.{pow-lt}
 use Rattle.std.proofs.Math.Nat.{ℕ_set}
-use Rattle.std.specs.Prelude.{◌≡◌, Option, Some, None, Bool, true, false, not, ◌&&◌, List, ℕ, ◌+◌, ◌*◌, ◌^◌, length, ◌==◌, nat_le, nat_lt, if◌then◌else◌}
+use Rattle.std.specs.Prelude.{◌≡◌, Option, Some, None, Bool, true, false, not, ◌&&◌, List, ℕ, ◌+◌, ◌*◌, ◌^◌, length, ◌==◌, nat_le, nat_lt, if◌then◌else◌, Ok}
 use Rattle.octets.specs.Octets.{number_at}
-use Rattle.octets.specs.Checked.{pass, mapped}
+use Rattle.octets.specs.Checked.{mapped}
 use Rattle.index.specs.Index.{Index, version_of, columns_most, least_power, index_of, layout}
 use Rattle.index.specs.Probing.{Probe, found, absent}
 use Rattle.index.specs.declared.reading.IndexHead.{IndexHead}
@@ -69,11 +69,11 @@ pub record Sized (s : List ℕ) (h : IndexHead) : Type 0 where
 pub record Well (i : Index) : Type 0 where
   pub big : Bool
   pub bytes : List ℕ
-  pub is : index_of big bytes ≡ pass i
+  pub is : index_of big bytes ≡ Ok i
 
 -- the head is that of a well formed index
 pub record ReadWell (big : Bool) (s : List ℕ) (h : IndexHead) : Type 0 where
-  pub is : mapped head_of (index_of big s) ≡ pass h
+  pub is : mapped head_of (index_of big s) ≡ Ok h
 
 unfoldable pub probed_of : Probe → Probed
 probed_of (found slot looks) = record { slot = Some slot; looks = looks }

@@ -1,11 +1,10 @@
 -- An index read (FORMAT 5.1): well formed (5.3; 10 in packing, 21 in a lookup), and the cell of a row.
-use Rattle.std.specs.Prelude.{Bool, true, false, ◌&&◌, ◌||◌, List, [], ◌∷◌, ℕ, zero, suc, ◌+◌, ◌*◌, ◌-◌, length, drop, ◌==◌, nat_le, nat_lt, slice_index, if◌then◌else◌}
-use Rattle.std.proofs.Math.Option.{Option, some, none}
+use Rattle.std.specs.Prelude.{Bool, true, false, ◌&&◌, ◌||◌, List, [], ◌∷◌, ℕ, zero, suc, ◌+◌, ◌*◌, ◌-◌, length, drop, ◌==◌, nat_le, nat_lt, slice_index, if◌then◌else◌, Option, Some, None, Result, Ok}
 use Rattle.numbers.specs.Tables.{index2, index5, columns2, columns5, last_column, types_column}
 use Rattle.numbers.specs.Refusals.{bad_index}
 use Rattle.octets.specs.Octets.{number_at, numbers_in}
 use Rattle.octets.specs.Lists.{all, distinct, zero_together}
-use Rattle.octets.specs.Checked.{Check, pass, ◌>>=◌, require}
+use Rattle.octets.specs.Checked.{◌>>=◌, require}
 use Rattle.index.specs.Columns.{columns_of, column_in}
 
 pub record Index : Type 0 where
@@ -64,7 +63,7 @@ layout big version c u n s =
       sizes = numbers_in big 4 (u * c) (drop (16 + 12 * n + 4 * c + 4 * (u * c)) s);
     }
 
-unfoldable pub index_of : Bool → List ℕ → Check Index
+unfoldable pub index_of : Bool → List ℕ → Result Index ℕ
 index_of big s = do
   _ ← require (nat_le 16 (length s)) bad_index
   let version = version_of big s
@@ -78,7 +77,7 @@ index_of big s = do
   let i = layout big version c u n s
   _ ← require (all (code_good version) i.codes && distinct i.codes) bad_index
   _ ← require (slots_good u i.identities i.rows) bad_index
-  pass i
+  Ok i
 
 -- ---- cells
 pub record Contribution : Type 0 where
@@ -87,18 +86,18 @@ pub record Contribution : Type 0 where
 
 -- how many columns stand before the one of a code
 unfoldable pub place_of : List ℕ → ℕ → Option ℕ
-place_of [] c = none
+place_of [] c = None
 place_of (k ∷ ks) c = if k == c
-    then some 0
-    else elim (place_of ks c) [ some n ↦ some (suc n) | none ↦ none ]
+    then Some 0
+    else elim (place_of ks c) [ Some n ↦ Some (suc n) | None ↦ None ]
 
 unfoldable pub cell_at : Index → ℕ → Option ℕ → Option Contribution
-cell_at i row none = none
-cell_at i row (some k) =
+cell_at i row None = None
+cell_at i row (Some k) =
     let n = (row - 1) * length i.codes + k in
-    some (record { offset = slice_index i.offsets n; size = slice_index i.sizes n })
+    Some (record { offset = slice_index i.offsets n; size = slice_index i.sizes n })
 
 -- the cell of a row, counted from 1, in a section's column
 unfoldable pub cell_of : Index → ℕ → ℕ → Option Contribution
 cell_of i row section =
-    elim (column_in (columns_of i.version) section) [ some c ↦ cell_at i row (place_of i.codes c) | none ↦ none ]
+    elim (column_in (columns_of i.version) section) [ Some c ↦ cell_at i row (place_of i.codes c) | None ↦ None ]

@@ -1,6 +1,5 @@
 -- An index written (FORMAT 5.6).
-use Rattle.std.specs.Prelude.{Bool, true, false, List, [], ◌∷◌, ◌++◌, map, ℕ, length, ◌==◌, if◌then◌else◌}
-use Rattle.std.proofs.Math.Option.{Option, some, none}
+use Rattle.std.specs.Prelude.{Bool, true, false, List, [], ◌∷◌, ◌++◌, map, ℕ, length, ◌==◌, if◌then◌else◌, Option, Some, None}
 use Rattle.numbers.specs.Tables.{index2, index5}
 use Rattle.octets.specs.Octets.{bytes_of, numbers_of}
 use Rattle.octets.specs.Lists.{joined, those, any}
@@ -20,12 +19,12 @@ present_columns version rows = those (λ c. any (λ r. is_some (r.cells c.sectio
 
 -- the cell of a unit that has nothing in the column: offset 0 and size 0
 unfoldable pub offset_of : Option Contribution → ℕ
-offset_of (some c) = c.offset
-offset_of none = 0
+offset_of (Some c) = c.offset
+offset_of None = 0
 
 unfoldable pub size_of : Option Contribution → ℕ
-size_of (some c) = c.size
-size_of none = 0
+size_of (Some c) = c.size
+size_of None = 0
 
 -- a number for each row and column, row by row
 unfoldable pub grid : (Option Contribution → ℕ) → List Column → List Row → List ℕ

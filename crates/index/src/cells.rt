@@ -1,6 +1,5 @@
 // The columns of both forms, and the cell of a row.
-ghost use Rattle.std.specs.Prelude.{Some, ◌≡◌, map, ◌<◌, ◌≤◌, length, slice_get};
-ghost use Rattle.std.proofs.Math.Option.{some};
+ghost use Rattle.std.specs.Prelude.{Some, ◌≡◌, map, ◌<◌, ◌≤◌, length, slice_get, Option};
 ghost use Rattle.octets.specs.Options.{found};
 ghost use Rattle.index.specs.Columns.{columns_of, column_in};
 ghost use Rattle.index.specs.Index.{place_of, cell_at, cell_of};
@@ -164,7 +163,7 @@ impl<'i, 'a> Row<'i, 'a> {
     // In column k.
     pub fn cell_at(self, k: usize) -> Contribution
         requires { k < length self.index.now.codes }
-        ensures { Some result ≡ cell_found (cell_at self.entry.index.now self.entry.number (some k)) }
+        ensures { Some result ≡ cell_found (cell_at self.entry.index.now self.entry.number (Some k)) }
     {
         self.index.cell_at(self.number, k)
     }

@@ -1,6 +1,5 @@
 // A kept unit's row judged: 15 before 16, over all columns that are needed. Lengths of sections are by their code.
-ghost use Rattle.std.specs.Prelude.{Some, ◌≡◌, ◌||◌, ◌<◌, ◌==◌};
-ghost use Rattle.std.proofs.Math.Option.{none};
+ghost use Rattle.std.specs.Prelude.{Some, ◌≡◌, ◌||◌, ◌<◌, ◌==◌, Option, None, Result, Ok, Err};
 ghost use Rattle.numbers.specs.Sections.{section_codes};
 ghost use Rattle.octets.specs.Lists.{all};
 ghost use Rattle.index.specs.Index.{cell_of};
@@ -82,8 +81,8 @@ impl Measures {
 
 impl Contributions {
     #[tactic(auto, using(crate::proofs::Filled::nothing_held))]
-    fn none() -> Contributions
-        ensures { ContributionsAre result (λ c. none) }
+    fn None() -> Contributions
+        ensures { ContributionsAre result (λ c. None) }
     {
         Contributions {
             cells: [None; CODES],
@@ -133,7 +132,7 @@ impl Contributions {
 pub fn whole_contributions(lengths: [usize; CODES]) -> Contributions
     ensures { ContributionsAre result (whole_contributions (by_code lengths)) }
 {
-    let mut k = Contributions::none();
+    let mut k = Contributions::None();
     for c in FIRST_SHARED..SHARED_END {
         let whole = Contribution {
             offset: 0,
@@ -148,7 +147,7 @@ pub fn whole_contributions(lengths: [usize; CODES]) -> Contributions
 fn row_cells(row: Row, lengths: &[usize; CODES]) -> Contributions
     ensures { ContributionsAre result (chosen (by_code lengths.now) (cell_of row.entry.index.now row.entry.number)) }
 {
-    let mut k = Contributions::none();
+    let mut k = Contributions::None();
     for c in FIRST_SHARED..SHARED_END {
         k.take(c, lengths[c], row.cell(c));
     }

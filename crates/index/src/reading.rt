@@ -1,6 +1,5 @@
 // An index read: well formed or not, and the numbers that it holds. Its arrays are not copied: they are read from the section's bytes where they are wanted.
-ghost use Rattle.std.specs.Prelude.{Some, ◌≡◌, ◌+◌, ◌*◌, ◌^◌, ◌<◌, ◌≤◌, length, drop, slice_index};
-ghost use Rattle.std.proofs.Math.Option.{some};
+ghost use Rattle.std.specs.Prelude.{Some, ◌≡◌, ◌+◌, ◌*◌, ◌^◌, ◌<◌, ◌≤◌, length, drop, slice_index, Option, None, Result, Ok, Err};
 ghost use Rattle.numbers.specs.Refused.{told};
 ghost use Rattle.octets.specs.Lists.{all, has, distinct, zero_together};
 ghost use Rattle.octets.specs.Octets.{number_at};
@@ -132,7 +131,7 @@ impl<'a> Index<'a> {
     #[tactic(auto, using(crate::proofs::Heads::cells_held), unfolding(crate::specs::Index::cell_at, crate::specs::Cells::cell_found))]
     pub fn cell_at(&self, row: usize, k: usize) -> Contribution
         requires { (0 < row) × (row ≤ self.now.units) × (k < length self.now.codes) }
-        ensures { Some result ≡ cell_found (cell_at self.now row (some k)) }
+        ensures { Some result ≡ cell_found (cell_at self.now row (Some k)) }
     {
         let n = (row - 1) * self.head.columns + k;
         Contribution {

@@ -1,17 +1,9 @@
 -- What a join answers, from what the file's reader answered.
-use mathlib.Core.Path.{◌≡◌, refl, sym, ap, ◌∙◌}
-use mathlib.Core.Logic.{◌⊎◌, inl, inr, ⊎_elim}
-use mathlib.Core.Bool.{Bool, true, false, not, ◌&&◌}
-use mathlib.Core.List.{List, append-nil}
-use Prim.Native.Nat.{ℕ, ◌+◌, ◌-◌, ◌≤◌, ◌<◌}
-use native.Mathlib.Omega.{arith}
+use Rattle.std.proofs.Common.{◌≡◌, refl, sym, ap, ◌∙◌, ◌⊎◌, inl, inr, ⊎_elim, Bool, true, false, not, ◌&&◌, List, append-nil, ℕ, ◌+◌, ◌-◌, ◌≤◌, ◌<◌, arith, eqb, leb, length, take, drop, get_or, take_all, length-take-le, ne_eqb, le-leb, leb-true}
 use native.Mathlib.Decide.{dec_le}
-use lib.Dec.{eqb, leb}
-use lib.ListN.{length, take, drop, get_or}
-use lib.Seq.{take_all, length-take-le}
-use borrow.Author.Tests.{ne_eqb, le-leb, lt-leb, leb-true}
+use borrow.Author.Tests.{lt-leb}
 use Rattle.octets.specs.Octets.{padded, zeros, number, number_at}
-use Rattle.octets.specs.Checked.{Check, pass, refuse, ◌>>=◌, mapped}
+use Rattle.octets.specs.Checked.{◌>>=◌, mapped}
 use Rattle.octets.proofs.Parts.{part_take}
 use Rattle.octets.proofs.Placed.{padded_none}
 use Rattle.bundle.specs.Bundle.{Bundle, bundle_of}
@@ -26,25 +18,25 @@ use Rattle.join.specs.Join.{starts_elf, elf_bundle, as_it_is, as_bundle, file_bu
 use Rattle.join.specs.Held.{file_head, answer_behind}
 use Rattle.join.proofs.Bundles.{Plain, Sized, file_sized, file_plain}
 use Rattle.join.proofs.Memory.{length_behind, lent_length}
-use Rattle.std.specs.Prelude.{if◌then◌else◌}
+use Rattle.std.specs.Prelude.{if◌then◌else◌, Result, Ok, Err}
 
 -- ---- what an answer in numbers says
 -- a check that refuses by none of the two numbers that say something else
-abbrev pub Plainly : Check (List ℕ) → Type 0
-Plainly c = (n : ℕ) → c ≡ refuse n → Plain n
+abbrev pub Plainly : Result (List ℕ) ℕ → Type 0
+Plainly c = (n : ℕ) → c ≡ Err n → Plain n
 
-pub record Fits (c : Check (List ℕ)) (o : ℕ) : Type 0 where
+pub record Fits (c : Result (List ℕ) ℕ) (o : ℕ) : Type 0 where
   pub bytes : List ℕ
-  pub is : c ≡ pass bytes
+  pub is : c ≡ Ok bytes
   pub most : length bytes ≤ o
   pub whole : answered c o ≡ made bytes
 
-pub code_made : (c : Check (List ℕ)) (o : ℕ) → Plainly c → (written_of (answered c o)).code ≡ 0 → Fits c o
+pub code_made : (c : Result (List ℕ) ℕ) (o : ℕ) → Plainly c → (written_of (answered c o)).code ≡ 0 → Fits c o
 unfolding answered written_of
-code_made (refuse n) o p e = absurd ((p n refl).some e)
-code_made (pass b) o p e = go (leb (length b) o) refl e
+code_made (Err n) o p e = absurd ((p n refl).some e)
+code_made (Ok b) o p e = go (leb (length b) o) refl e
   where
-    go : (t : Bool) → leb (length b) o ≡ t → (written_of (if t then made b else short (length b))).code ≡ 0 → Fits (pass b) o
+    go : (t : Bool) → leb (length b) o ≡ t → (written_of (if t then made b else short (length b))).code ≡ 0 → Fits (Ok b) o
     go true q e = record { bytes = b; is = refl; most = leb-true (length b) o q; whole = rw (answered, q) }
     go false q e = absurd (omega (arith, e))
 
@@ -76,7 +68,7 @@ module _ (f old : List ℕ) (n total room : ℕ) (size : n ≡ length old) (long
   -- the answer is 0
   pub record Joins : Type 0 where
     pub bundle : List ℕ
-    pub read : file_bundle f ≡ pass bundle
+    pub read : file_bundle f ≡ Ok bundle
     pub sized : Sized f bundle
     pub fits : length bundle ≤ room
     pub both : before + length bundle ≡ length (behind old bundle)
@@ -104,10 +96,10 @@ module _ (f old : List ℕ) (n total room : ℕ) (size : n ≡ length old) (long
       }
 
   -- ---- the answer, by cases
-  abbrev told : Check (List ℕ) → Written
+  abbrev told : Result (List ℕ) ℕ → Written
   told c = written_of (answered c room)
 
-  abbrev wanted : Check (List ℕ) → Written
+  abbrev wanted : Result (List ℕ) ℕ → Written
   wanted c = written_of (answered (c >>= joined_with old) total)
 
   after_refusal : (k : ℕ) (same : Bool) → Plain k → answer_behind (record { code = k; length = 0 }) before same ≡ record { code = k; length = 0 }
@@ -135,59 +127,59 @@ module _ (f old : List ℕ) (n total room : ℕ) (size : n ≡ length old) (long
     after_all h = rw (goes_on, le-leb (before + length b) package_limit h)
 
   module _ (b : List ℕ) (s : Sized f b) where
-    told_fits : length b ≤ room → told (pass b) ≡ record { code = 0; length = length b }
+    told_fits : length b ≤ room → told (Ok b) ≡ record { code = 0; length = length b }
     unfolding answered written_of
     told_fits h = rw (answered, le-leb (length b) room h)
 
-    told_short : room < length b → told (pass b) ≡ record { code = 18; length = length b }
+    told_short : room < length b → told (Ok b) ≡ record { code = 18; length = length b }
     unfolding answered written_of
     told_short h = rw (answered, lt-leb (length b) room h)
 
     size_behind : before + length b ≡ length (behind old b)
     size_behind = omega (arith, length_behind old b (omega arith) s.least)
 
-    wanted_order : eqb (head_of old) (head_of b) ≡ false → wanted (pass b) ≡ record { code = 45; length = 0 }
+    wanted_order : eqb (head_of old) (head_of b) ≡ false → wanted (Ok b) ≡ record { code = 45; length = 0 }
     unfolding answered written_of joined_with ◌>>=◌
-    wanted_order e = ap (λ (c : Check (List ℕ)). written_of (answered c total)) (fails _ 45 _ e)
+    wanted_order e = ap (λ (c : Result (List ℕ) ℕ). written_of (answered c total)) (fails _ 45 _ e)
 
-    wanted_limit : eqb (head_of old) (head_of b) ≡ true → package_limit < before + length b → wanted (pass b) ≡ record { code = 19; length = 0 }
+    wanted_limit : eqb (head_of old) (head_of b) ≡ true → package_limit < before + length b → wanted (Ok b) ≡ record { code = 19; length = 0 }
     unfolding answered written_of joined_with ◌>>=◌
     wanted_limit e h =
         let l : leb (length (behind old b)) package_limit ≡ false = lt-leb (length (behind old b)) package_limit (omega (arith, h, size_behind)) in
-        ap (λ (c : Check (List ℕ)). written_of (answered c total)) (passes _ 45 _ e ∙ fails _ 19 _ l)
+        ap (λ (c : Result (List ℕ) ℕ). written_of (answered c total)) (passes _ 45 _ e ∙ fails _ 19 _ l)
 
-    both_pass : eqb (head_of old) (head_of b) ≡ true → before + length b ≤ package_limit → joined_with old b ≡ pass (behind old b)
+    both_pass : eqb (head_of old) (head_of b) ≡ true → before + length b ≤ package_limit → joined_with old b ≡ Ok (behind old b)
     unfolding joined_with
     both_pass e h =
         let l : leb (length (behind old b)) package_limit ≡ true = le-leb (length (behind old b)) package_limit (omega (arith, h, size_behind)) in
         passes _ 45 _ e ∙ passes _ 19 _ l
 
-    wanted_fits : eqb (head_of old) (head_of b) ≡ true → before + length b ≤ package_limit → length b ≤ room → wanted (pass b) ≡ record { code = 0; length = before + length b }
+    wanted_fits : eqb (head_of old) (head_of b) ≡ true → before + length b ≤ package_limit → length b ≤ room → wanted (Ok b) ≡ record { code = 0; length = before + length b }
     unfolding answered written_of ◌>>=◌
     wanted_fits e h r =
         let l : leb (length (behind old b)) total ≡ true = le-leb (length (behind old b)) total (omega (arith, r, size_behind)) in
-        ap (λ (c : Check (List ℕ)). written_of (answered c total)) (both_pass e h) ∙ rw (answered, l) (ap (λ (k : ℕ). record { code = 0; length = k }) (sym size_behind))
+        ap (λ (c : Result (List ℕ) ℕ). written_of (answered c total)) (both_pass e h) ∙ rw (answered, l) (ap (λ (k : ℕ). record { code = 0; length = k }) (sym size_behind))
 
-    wanted_short : eqb (head_of old) (head_of b) ≡ true → before + length b ≤ package_limit → room < length b → wanted (pass b) ≡ record { code = 18; length = before + length b }
+    wanted_short : eqb (head_of old) (head_of b) ≡ true → before + length b ≤ package_limit → room < length b → wanted (Ok b) ≡ record { code = 18; length = before + length b }
     unfolding answered written_of ◌>>=◌
     wanted_short e h r =
         let l : leb (length (behind old b)) total ≡ false = lt-leb (length (behind old b)) total (omega (arith, r, size_behind)) in
-        ap (λ (c : Check (List ℕ)). written_of (answered c total)) (both_pass e h) ∙ rw (answered, l) (ap (λ (k : ℕ). record { code = 18; length = k }) (sym size_behind))
+        ap (λ (c : Result (List ℕ) ℕ). written_of (answered c total)) (both_pass e h) ∙ rw (answered, l) (ap (λ (k : ℕ). record { code = 18; length = k }) (sym size_behind))
 
     -- whatever is told of it, by the order and the limit
     judged : (code : ℕ) (either : (code ≡ 0) ⊎ (code ≡ 18))
-        → (eqb (head_of old) (head_of b) ≡ true → before + length b ≤ package_limit → wanted (pass b) ≡ record { code = code; length = before + length b })
-        → answer_behind (read b code either) before (eqb (head_of old) (head_of b)) ≡ wanted (pass b)
+        → (eqb (head_of old) (head_of b) ≡ true → before + length b ≤ package_limit → wanted (Ok b) ≡ record { code = code; length = before + length b })
+        → answer_behind (read b code either) before (eqb (head_of old) (head_of b)) ≡ wanted (Ok b)
     judged code either all = go (eqb (head_of old) (head_of b)) refl
       where
-        go : (t : Bool) → eqb (head_of old) (head_of b) ≡ t → answer_behind (read b code either) before t ≡ wanted (pass b)
+        go : (t : Bool) → eqb (head_of old) (head_of b) ≡ t → answer_behind (read b code either) before t ≡ wanted (Ok b)
         go false e = after_order b code either ∙ sym (wanted_order e)
         go true e = elim (dec_le (before + length b) package_limit) [
           | yes h ↦ after_all b code either h ∙ sym (all e h)
           | no h ↦ after_limit b code either (omega arith) ∙ sym (wanted_limit e (omega arith))
         ]
 
-    of_pass : answer_behind (told (pass b)) before (eqb (head_of old) (head_of b)) ≡ wanted (pass b)
+    of_pass : answer_behind (told (Ok b)) before (eqb (head_of old) (head_of b)) ≡ wanted (Ok b)
     of_pass = elim (dec_le (length b) room) [
       | yes r ↦ ap (λ (w : Written). answer_behind w before (eqb (head_of old) (head_of b))) (told_fits r) ∙ judged 0 (inl refl) (λ e h. wanted_fits e h r)
       | no r ↦ ap (λ (w : Written). answer_behind w before (eqb (head_of old) (head_of b))) (told_short (omega arith)) ∙ judged 18 (inr refl) (λ e h. wanted_short e h (omega arith))
@@ -197,23 +189,23 @@ module _ (f old : List ℕ) (n total room : ℕ) (size : n ≡ length old) (long
   unfolding answered written_of ◌>>=◌ joined_behind
   answers same order = go (file_bundle f) refl
     where
-      go : (c : Check (List ℕ)) → file_bundle f ≡ c → answer_behind (told c) before same ≡ wanted c
-      go (refuse k) e = after_refusal k same (file_plain f k e)
-      go (pass b) e =
+      go : (c : Result (List ℕ) ℕ) → file_bundle f ≡ c → answer_behind (told c) before same ≡ wanted c
+      go (Err k) e = after_refusal k same (file_plain f k e)
+      go (Ok b) e =
           let s = file_sized f b e in
           let o : same ≡ eqb (head_of old) (head_of b) = order s.there ∙ ap (eqb (head_of old)) (sym s.head) in
-          ap (answer_behind (told (pass b)) before) o ∙ of_pass b s
+          ap (answer_behind (told (Ok b)) before) o ∙ of_pass b s
 
 -- ---- checks of what is made of a value
-pub mapped_refuse : {A B : Type 0} (g : A → B) (c : Check A) (n : ℕ) → refuse n ≡ mapped g c → c ≡ refuse n
+pub mapped_refuse : {A B : Type 0} (g : A → B) (c : Result A ℕ) (n : ℕ) → Err n ≡ mapped g c → c ≡ Err n
 unfolding mapped
-mapped_refuse g (pass a) n e = absurd (pass_refuse (g a) n (sym e))
-mapped_refuse g (refuse m) n e = ap refuse (sym (refuse_inj e))
+mapped_refuse g (Ok a) n e = absurd (pass_refuse (g a) n (sym e))
+mapped_refuse g (Err m) n e = ap Err (sym (refuse_inj e))
 
-pub mapped_pass : {A B : Type 0} (g : A → B) (c : Check A) (b : B) → pass b ≡ mapped g c → (a : A) × (c ≡ pass a)
+pub mapped_pass : {A B : Type 0} (g : A → B) (c : Result A ℕ) (b : B) → Ok b ≡ mapped g c → (a : A) × (c ≡ Ok a)
 unfolding mapped
-mapped_pass g (pass a) b e = (a, refl)
-mapped_pass g (refuse m) b e = absurd (pass_refuse b m e)
+mapped_pass g (Ok a) b e = (a, refl)
+mapped_pass g (Err m) b e = absurd (pass_refuse b m e)
 
 -- ---- the file alone
 module _ (f : List ℕ) where
@@ -233,19 +225,19 @@ module _ (f : List ℕ) where
   unfolding file_bundle
   file_other e = sym (rw e)
 
-  pub broken : (n : ℕ) → refuse n ≡ mapped (λ (u : Bundle). u.big) (bundle_of f) → as_bundle f ≡ refuse n
+  pub broken : (n : ℕ) → Err n ≡ mapped (λ (u : Bundle). u.big) (bundle_of f) → as_bundle f ≡ Err n
   unfolding as_bundle
   broken n e = then_refuse (bundle_of f) _ n (mapped_refuse _ (bundle_of f) n e)
 
-  pub formed : (big : Bool) → pass big ≡ mapped (λ (u : Bundle). u.big) (bundle_of f) → as_it_is f ≡ as_bundle f
+  pub formed : (big : Bool) → Ok big ≡ mapped (λ (u : Bundle). u.big) (bundle_of f) → as_it_is f ≡ as_bundle f
   unfolding as_bundle
   formed big e = let r = mapped_pass _ (bundle_of f) big e in sym (then_pass (bundle_of f) _ r.0 r.1)
 
-  pub too_long : package_limit < length f → as_it_is f ≡ refuse 19
+  pub too_long : package_limit < length f → as_it_is f ≡ Err 19
   unfolding as_it_is
   too_long h = fails _ 19 _ (lt-leb (length f) package_limit h)
 
-  pub short_enough : length f ≤ package_limit → pass f ≡ as_it_is f
+  pub short_enough : length f ≤ package_limit → Ok f ≡ as_it_is f
   unfolding as_it_is
   short_enough h = sym (passes _ 19 _ (le-leb (length f) package_limit h))
 
@@ -271,7 +263,7 @@ module _ (m f : List ℕ) (n : ℕ) where
     joining_none e =
         let l : length (take n m) ≡ 0 = length-take-le n m h ∙ e in
         let r : joined (take n m) f ≡ file_bundle f = rw (joined, l) in
-        sym (joining_inside ∙ ap (λ (c : Check (List ℕ)). answered c (length m)) r)
+        sym (joining_inside ∙ ap (λ (c : Result (List ℕ) ℕ). answered c (length m)) r)
 
     not_none : (n ≡ 0 → ⊥) → eqb (length (take n m)) 0 ≡ false
     not_none e = ne_eqb (length (take n m)) 0 (λ z. e (sym (length-take-le n m h) ∙ z))
@@ -279,14 +271,14 @@ module _ (m f : List ℕ) (n : ℕ) where
     pub joining_unframed : (n ≡ 0 → ⊥) → framed (take n m) ≡ false → joining m n f ≡ refused 3
     unfolding joined answered
     joining_unframed e t =
-        let r : joined (take n m) f ≡ refuse 3 = rw (joined, not_none e) (fails _ 3 _ t) in
-        joining_inside ∙ ap (λ (c : Check (List ℕ)). answered c (length m)) r
+        let r : joined (take n m) f ≡ Err 3 = rw (joined, not_none e) (fails _ 3 _ t) in
+        joining_inside ∙ ap (λ (c : Result (List ℕ) ℕ). answered c (length m)) r
 
     pub joining_framed : (n ≡ 0 → ⊥) → framed (take n m) ≡ true → answered (joined_behind (take n m) f) (length m) ≡ joining m n f
     unfolding joined
     joining_framed e t =
         let r : joined (take n m) f ≡ joined_behind (take n m) f = rw (joined, not_none e) (passes _ 3 _ t) in
-        sym (joining_inside ∙ ap (λ (c : Check (List ℕ)). answered c (length m)) r)
+        sym (joining_inside ∙ ap (λ (c : Result (List ℕ) ℕ). answered c (length m)) r)
 
 -- with none so far the memory is an output like any other
 pub none_kept : (a : Answer) (m : List ℕ) (n : ℕ) → n ≡ 0 → output_of a (length m) ≡ memory_after a m n

@@ -1,16 +1,7 @@
 -- What a file's bundle is: written of objects that can be written, at least a head and an end, and refused by no number that says something else.
-use mathlib.Core.Path.{◌≡◌, refl, sym, ap, ◌∙◌, subst}
-use mathlib.Core.Logic.{⊎_elim}
-use mathlib.Core.Bool.{Bool, true, false, cond, ◌||◌}
-use mathlib.Core.List.{List, [], ◌∷◌, ◌++◌, map, append_assoc}
-use Prim.Native.Nat.{ℕ, zero, suc, ◌+◌, ◌*◌, ◌-◌, ◌/◌, ◌≤◌}
-use native.Mathlib.Omega.{arith}
-use lib.Dec.{eqb, leb}
-use lib.ListN.{length, take, get_or}
-use borrow.Author.Tests.{leb-true}
+use Rattle.std.proofs.Common.{◌≡◌, refl, sym, ap, ◌∙◌, subst, ⊎_elim, Bool, true, false, cond, ◌||◌, List, [], ◌∷◌, ◌++◌, map, append_assoc, ℕ, zero, suc, ◌+◌, ◌*◌, ◌-◌, ◌/◌, ◌≤◌, arith, eqb, leb, length, take, get_or, leb-true}
 use Rattle.octets.specs.Octets.{part, number_at, little_of, bytes_of, zeros}
 use Rattle.octets.specs.Lists.{all, same, joined}
-use Rattle.octets.specs.Checked.{Check, pass, refuse}
 use Rattle.octets.proofs.Checks.{bind_pass, bind_refuse, require_pass, pass_inj}
 use Rattle.octets.proofs.Refusals.{Only, only_pass, only_require, only_bind, Between, between_pass, between_require, between_bind, between_only}
 use Rattle.octets.proofs.Numbers.{Bytes, bytes_none, bytes_tail, bytes_part, number_at_first}
@@ -30,7 +21,7 @@ use Rattle.elf.proofs.Held.{holds, holds32}
 use Rattle.join.specs.Join.{starts_elf, elf_bundle, as_it_is, as_bundle, file_bundle, head_of}
 use Rattle.join.specs.Held.{file_head}
 use Rattle.join.proofs.Canonical.{canonical, bundle_long}
-use Rattle.std.specs.Prelude.{if◌then◌else◌}
+use Rattle.std.specs.Prelude.{if◌then◌else◌, Result, Ok, Err}
 
 -- ---- the head of what is written
 pub written_head : (big : Bool) (os : List Sections) → head_of (written big os) ≡ head_word big
@@ -50,7 +41,7 @@ pub record Ordered (f : List ℕ) (e : File) : Type 0 where
   pub order : e.big ≡ eqb (get_or f 5 0) 2
   pub long : 52 ≤ length f
 
-file_ordered : (f : List ℕ) (e : File) → file_of f ≡ pass e → Ordered f e
+file_ordered : (f : List ℕ) (e : File) → file_of f ≡ Ok e → Ordered f e
 unfolding file_of
 file_ordered f e h =
     let a = require_pass (leb 64 (length f)) 31 _ e h in
@@ -64,7 +55,7 @@ file_ordered f e h =
     let l = pass_inj k.1 in
     record { order = ap (λ (z : File). z.big) (sym l); long = omega (arith, leb-true 64 (length f) a.0) }
 
-file32_ordered : (f : List ℕ) (e : File) → file32_of f ≡ pass e → Ordered f e
+file32_ordered : (f : List ℕ) (e : File) → file32_of f ≡ Ok e → Ordered f e
 unfolding file32_of
 file32_ordered f e h =
     let a = require_pass (leb 52 (length f)) 31 _ e h in
@@ -78,7 +69,7 @@ file32_ordered f e h =
     let l = pass_inj k.1 in
     record { order = ap (λ (z : File). z.big) (sym l); long = leb-true 52 (length f) a.0 }
 
-judged_same : (f : List ℕ) (o e : File) → sections_inside f o ≡ pass e → o ≡ e
+judged_same : (f : List ℕ) (o e : File) → sections_inside f o ≡ Ok e → o ≡ e
 unfolding sections_inside
 judged_same f o e h =
     let p = require_pass _ 31 _ e h in
@@ -93,9 +84,9 @@ pub record Read (f b : List ℕ) : Type 0 where
   pub is : b ≡ written file.big (record { word = word; sections = sections_read f file } ∷ [])
   pub small : length b ≤ package_limit
   -- read by the rules of bundles
-  pub again : Bytes f → (u : Bundle) × (bundle_of b ≡ pass u)
+  pub again : Bytes f → (u : Bundle) × (bundle_of b ≡ Ok u)
 
-from_read : (f b : List ℕ) (e : File) → Ordered f e → (Bytes f → (u : Bundle) × (bundle_of b ≡ pass u)) → bundle_from f e ≡ pass b → Read f b
+from_read : (f b : List ℕ) (e : File) → Ordered f e → (Bytes f → (u : Bundle) × (bundle_of b ≡ Ok u)) → bundle_from f e ≡ Ok b → Read f b
 unfolding bundle_from bundle_of_word
 from_read f b e o again h =
     let r = require_pass (all (readable e.headers) (wanted_of e)) 32 _ b h in
@@ -112,25 +103,25 @@ from_read f b e o again h =
       again = again;
     }
 
-read_64 : (f b : List ℕ) → bundle_read f ≡ pass b → Read f b
+read_64 : (f b : List ℕ) → bundle_read f ≡ Ok b → Read f b
 unfolding bundle_read elf_of
 read_64 f b h =
     let e = bind_pass (elf_of f) (bundle_from f) b h in
     let o = bind_pass (file_of f) (sections_inside f) e.0 e.1 in
     from_read f b e.0 (subst (Ordered f) (judged_same f o.0 e.0 o.2) (file_ordered f o.0 o.1)) (λ g. let x = holds f b g h in (x.bundle, x.read)) e.2
 
-read_32 : (f b : List ℕ) → bundle32_read f ≡ pass b → Read f b
+read_32 : (f b : List ℕ) → bundle32_read f ≡ Ok b → Read f b
 unfolding bundle32_read elf32_of
 read_32 f b h =
     let e = bind_pass (elf32_of f) (bundle_from f) b h in
     let o = bind_pass (file32_of f) (sections_inside f) e.0 e.1 in
     from_read f b e.0 (subst (Ordered f) (judged_same f o.0 e.0 o.2) (file32_ordered f o.0 o.1)) (λ g. let x = holds32 f b g h in (x.bundle, x.read)) e.2
 
-pub elf_read_is : (f b : List ℕ) → elf_bundle f ≡ pass b → Read f b
+pub elf_read_is : (f b : List ℕ) → elf_bundle f ≡ Ok b → Read f b
 unfolding elf_bundle
 elf_read_is f b = go (eqb (get_or f 4 0) 1)
   where
-    go : (t : Bool) → cond t (bundle32_read f) (bundle_read f) ≡ pass b → Read f b
+    go : (t : Bool) → cond t (bundle32_read f) (bundle_read f) ≡ Ok b → Read f b
     go true h = read_32 f b h
     go false h = read_64 f b h
 
@@ -162,7 +153,7 @@ bytes_body f h b = go (unstored h)
     go false = bytes_part f h.offset h.size b
 
 bytes_sections : (f names : List ℕ) (hs : List Header) → Bytes f → Bytes (joined (map section_bytes (map (λ h. record { code = code_of names h; bytes = body_of f h }) hs)))
-unfolding joined section_bytes
+unfolding section_bytes
 bytes_sections f names [] b = bytes_none
 bytes_sections f names (h ∷ hs) b =
     let x = body_of f h in
@@ -174,7 +165,7 @@ bytes_sections f names (h ∷ hs) b =
     (bytes_sections f names hs b)
 
 bytes_read : (f : List ℕ) (e : File) (word : ℕ) → Bytes f → Bytes (written e.big (record { word = word; sections = sections_read f e } ∷ []))
-unfolding written object_bytes joined sections_read end_bytes head_bytes
+unfolding written object_bytes sections_read end_bytes head_bytes
 bytes_read f e word b =
     let ss = joined (map section_bytes (sections_read f e)) in
     let j = (word_bytes word ++ ss) ++ [] in
@@ -197,7 +188,7 @@ pub record Made (f b : List ℕ) : Type 0 where
   pub small : length b ≤ package_limit
   pub are_bytes : Bytes b
 
-elf_made : (f b : List ℕ) → Bytes f → elf_bundle f ≡ pass b → Made f b
+elf_made : (f b : List ℕ) → Bytes f → elf_bundle f ≡ Ok b → Made f b
 elf_made f b g h =
     let r = elf_read_is f b h in
     let x = r.again g in
@@ -205,7 +196,7 @@ elf_made f b g h =
     let c = canonical b are x.0 x.1 in
     record { big = x.0.big; objects = map (object_in b) x.0.objects; is = c.is; good = c.good; small = r.small; are_bytes = are }
 
-bundle_made : (f b : List ℕ) → Bytes f → as_bundle f ≡ pass b → Made f b
+bundle_made : (f b : List ℕ) → Bytes f → as_bundle f ≡ Ok b → Made f b
 unfolding as_bundle as_it_is
 bundle_made f b g h =
     let u = bind_pass (bundle_of f) _ b h in
@@ -214,11 +205,11 @@ bundle_made f b g h =
     subst (Made f) (pass_inj l.1)
     (record { big = u.0.big; objects = map (object_in f) u.0.objects; is = c.is; good = c.good; small = leb-true (length f) package_limit l.0; are_bytes = g })
 
-pub file_made : (f b : List ℕ) → Bytes f → file_bundle f ≡ pass b → Made f b
+pub file_made : (f b : List ℕ) → Bytes f → file_bundle f ≡ Ok b → Made f b
 unfolding file_bundle
 file_made f b g = go (starts_elf f)
   where
-    go : (t : Bool) → cond t (elf_bundle f) (as_bundle f) ≡ pass b → Made f b
+    go : (t : Bool) → cond t (elf_bundle f) (as_bundle f) ≡ Ok b → Made f b
     go true h = elf_made f b g h
     go false h = bundle_made f b g h
 
@@ -239,11 +230,11 @@ elf_head f e o = rw o.order (go (eqb (get_or f 5 0) 2))
     go true = refl
     go false = refl
 
-pub file_sized : (f b : List ℕ) → file_bundle f ≡ pass b → Sized f b
+pub file_sized : (f b : List ℕ) → file_bundle f ≡ Ok b → Sized f b
 unfolding file_bundle file_head as_bundle as_it_is
 file_sized f b = go (starts_elf f) refl
   where
-    go : (t : Bool) → starts_elf f ≡ t → cond t (elf_bundle f) (as_bundle f) ≡ pass b → Sized f b
+    go : (t : Bool) → starts_elf f ≡ t → cond t (elf_bundle f) (as_bundle f) ≡ Ok b → Sized f b
     go true s h =
         let r = elf_read_is f b h in
         let os : List Sections = record { word = r.word; sections = sections_read f r.file } ∷ [] in
@@ -307,28 +298,28 @@ read32_between : (f : List ℕ) → Between 19 33 (bundle32_read f)
 unfolding bundle32_read
 read32_between f = between_bind (elf32_of f) (bundle_from f) (between_only 31 _ refl (elf32_only f)) (from_between f)
 
-plain_between : (c : Check (List ℕ)) (n : ℕ) → Between 19 33 c → c ≡ refuse n → Plain n
+plain_between : (c : Result (List ℕ) ℕ) (n : ℕ) → Between 19 33 c → c ≡ Err n → Plain n
 plain_between c n t h = let b = t.is n h in record { some = λ e. omega (arith, b); other = λ e. omega (arith, b) }
 
-pub read_plain : (f : List ℕ) (n : ℕ) → elf_bundle f ≡ refuse n → Plain n
+pub read_plain : (f : List ℕ) (n : ℕ) → elf_bundle f ≡ Err n → Plain n
 unfolding elf_bundle
 read_plain f n = go (eqb (get_or f 4 0) 1)
   where
-    go : (t : Bool) → cond t (bundle32_read f) (bundle_read f) ≡ refuse n → Plain n
+    go : (t : Bool) → cond t (bundle32_read f) (bundle_read f) ≡ Err n → Plain n
     go true h = plain_between (bundle32_read f) n (read32_between f) h
     go false h = plain_between (bundle_read f) n (read_between f) h
 
-bundle_plain : (f : List ℕ) (n : ℕ) → as_bundle f ≡ refuse n → Plain n
+bundle_plain : (f : List ℕ) (n : ℕ) → as_bundle f ≡ Err n → Plain n
 unfolding as_bundle as_it_is
 bundle_plain f n h = ⊎_elim
     (λ r. let e = (bundle_only f).is n r in record { some = λ z. omega (arith, e); other = λ z. omega (arith, e) })
     (λ p. let e = (only_bind 19 _ _ (only_require (leb (length f) package_limit) 19) (λ _. only_pass 19 f)).is n p.2 in record { some = λ z. omega (arith, e); other = λ z. omega (arith, e) })
     (bind_refuse (bundle_of f) _ n h)
 
-pub file_plain : (f : List ℕ) (n : ℕ) → file_bundle f ≡ refuse n → Plain n
+pub file_plain : (f : List ℕ) (n : ℕ) → file_bundle f ≡ Err n → Plain n
 unfolding file_bundle
 file_plain f n = go (starts_elf f)
   where
-    go : (t : Bool) → cond t (elf_bundle f) (as_bundle f) ≡ refuse n → Plain n
+    go : (t : Bool) → cond t (elf_bundle f) (as_bundle f) ≡ Err n → Plain n
     go true h = read_plain f n h
     go false h = bundle_plain f n h

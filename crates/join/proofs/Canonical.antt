@@ -1,17 +1,9 @@
 -- A bundle that can be read is what is written of the objects that are read, byte by byte.
-use mathlib.Core.Path.{◌≡◌, refl, sym, ap, ◌∙◌, subst}
-use mathlib.Core.Logic.{⊎_elim}
-use mathlib.Core.Bool.{Bool, true, false, ◌||◌}
-use mathlib.Core.List.{List, [], ◌∷◌, ◌++◌, map, append-nil, append_assoc}
-use Prim.Native.Nat.{ℕ, ◌+◌, ◌*◌, ◌-◌, ◌/◌, ◌≤◌}
-use native.Mathlib.Omega.{arith}
+use Rattle.std.proofs.Common.{◌≡◌, refl, sym, ap, ◌∙◌, subst, ⊎_elim, Bool, true, false, ◌||◌, List, [], ◌∷◌, ◌++◌, map, append-nil, append_assoc, ℕ, ◌+◌, ◌*◌, ◌-◌, ◌/◌, ◌≤◌, arith, eqb, length, drop, length-append, length-drop, eqb-true}
 use native.Mathlib.Decide.{dec_le}
-use lib.Dec.{eqb}
-use lib.ListN.{length, drop, length-append, length-drop}
-use borrow.Author.Tests.{eqb-true}
 use Rattle.octets.specs.Octets.{part, number_at, zeros}
 use Rattle.octets.specs.Lists.{joined, all}
-use Rattle.octets.specs.Checked.{pass}
+use Rattle.std.specs.Prelude.{Ok}
 use Rattle.octets.proofs.Checks.{bind_pass, require_pass, pass_inj, or_cases}
 use Rattle.octets.proofs.Lists.{all_head, all_tail}
 use Rattle.octets.proofs.Numbers.{Bytes, number_at_drop, bytes_of_number_at}
@@ -37,7 +29,7 @@ zeros_again (x ∷ s) e =
     rw (← h) (ap (λ (z : List ℕ). 0 ∷ z) (zeros_again s (all_tail (eqb 0) x s e)))
 
 -- ---- a place at which items are read has a word
-long_at : (b : List ℕ) (at : ℕ) (is : List Item) → here b at ≡ pass is → at + 4 ≤ length b
+long_at : (b : List ℕ) (at : ℕ) (is : List Item) → here b at ≡ Ok is → at + 4 ≤ length b
 unfolding step_here
 long_at b at is e =
     elim (dec_le 4 (length (drop at b))) [
@@ -46,7 +38,7 @@ long_at b at is e =
     ]
 
 -- head and end are there
-pub bundle_long : (b : List ℕ) (u : Bundle) → bundle_of b ≡ pass u → 8 ≤ length b
+pub bundle_long : (b : List ℕ) (u : Bundle) → bundle_of b ≡ Ok u → 8 ≤ length b
 bundle_long b u e = let r = readable b u e in long_at b 4 r.all r.left
 
 -- ---- the words of a bundle of bytes
@@ -115,8 +107,8 @@ record Again (b : List ℕ) (at : ℕ) (is : List Item) : Type 0 where
   pub objects : Every Storables (map (object_in b) (objects_of is))
 
 module _ (b : List ℕ) (bytes : Bytes b) where
-  again_end : (at : ℕ) → here b at ≡ pass [] → Again b at []
-  unfolding step_here joined leading objects_of Facts
+  again_end : (at : ℕ) → here b at ≡ Ok [] → Again b at []
+  unfolding step_here leading objects_of Facts
   again_end at e = go (step_here b at) refl (facts at (drop at b))
     where
       go : (st : Step) → step_here b at ≡ st → Facts at (drop at b) st → Again b at []
@@ -125,7 +117,7 @@ module _ (b : List ℕ) (bytes : Bytes b) where
       go broken s f = absurd (left_broken b at [] e s)
 
   again_object : (at w : ℕ) (is : List Item) → ObjectFacts (drop at b) w 0 → Again b (at + 4) is → Again b at (object w ∷ is)
-  unfolding joined leading objects_of object_in object_bytes
+  unfolding leading objects_of object_in object_bytes
   again_object at w is f r =
       let ss = joined (map section_bytes (map (section_in b) (leading is))) in
       let os = joined (map object_bytes (map (object_in b) (objects_of is))) in
@@ -139,7 +131,7 @@ module _ (b : List ℕ) (bytes : Bytes b) where
       }
 
   again_section : (at : ℕ) (p : Part) (n : ℕ) (is : List Item) → SectionFacts at (drop at b) p n → Again b (at + 4 + n) is → Again b at (section p ∷ is)
-  unfolding joined leading objects_of section_in filled_up
+  unfolding leading objects_of section_in filled_up
   again_section at p n is f r =
       let ss = joined (map section_bytes (map (section_in b) (leading is))) in
       let os = joined (map object_bytes (map (object_in b) (objects_of is))) in
@@ -164,7 +156,7 @@ module _ (b : List ℕ) (bytes : Bytes b) where
       again_object at w is (subst (λ (m : ℕ). ObjectFacts (drop at b) w m) z f) (subst (λ (m : ℕ). Again b m is) k r)
   by_item (section p) n at is f r = again_section at p n is f r
 
-  again : (is : List Item) (at : ℕ) → here b at ≡ pass is → Again b at is
+  again : (is : List Item) (at : ℕ) → here b at ≡ Ok is → Again b at is
   unfolding step_here
   again [] at e = again_end at e
   again (i ∷ is) at e =
@@ -190,9 +182,9 @@ module _ (b : List ℕ) (bytes : Bytes b) where
       word_there b bytes 0 h ∙ rw z)
       (or_cases _ _ e)
 
-  from_items : (big : Bool) (is : List Item) → part b 0 4 ≡ head_bytes big → 4 ≤ length b → here b 4 ≡ pass is → object_first is ≡ true
+  from_items : (big : Bool) (is : List Item) → part b 0 4 ≡ head_bytes big → 4 ≤ length b → here b 4 ≡ Ok is → object_first is ≡ true
       → Canonical b (record { big = big; objects = objects_of is })
-  unfolding written joined
+  unfolding written
   from_items big is h l e f =
       let r = again b bytes is 4 e in
       let os = map (object_in b) (objects_of is) in
@@ -207,7 +199,7 @@ module _ (b : List ℕ) (bytes : Bytes b) where
       drop_none : (s : List ℕ) → drop 0 s ≡ s
       drop_none s = refl
 
-  pub canonical : (u : Bundle) → bundle_of b ≡ pass u → Canonical b u
+  pub canonical : (u : Bundle) → bundle_of b ≡ Ok u → Canonical b u
   unfolding bundle_of here
   canonical u e =
       let h = require_pass (eqb (number_at false 4 b 0) 0xF000_0000 || eqb (number_at false 4 b 0) 0xF000_0001) 3 _ u e in
@@ -216,5 +208,5 @@ module _ (b : List ℕ) (bytes : Bytes b) where
       let l : 4 ≤ length b = omega (arith, long_at b 4 i.0 (is_here i.1)) in
       subst (Canonical b) (pass_inj f.1) (from_items (eqb (number_at false 4 b 0) 0xF000_0001) i.0 (head_there l h.0) l (is_here i.1) f.0)
     where
-      is_here : {is : List Item} → items 4 (drop 4 b) ≡ pass is → here b 4 ≡ pass is
+      is_here : {is : List Item} → items 4 (drop 4 b) ≡ Ok is → here b 4 ≡ Ok is
       is_here e = e

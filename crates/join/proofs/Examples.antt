@@ -1,10 +1,9 @@
 -- Files joined and opened, as the checker computes them.
-use mathlib.Core.Path.{◌≡◌, refl}
-use mathlib.Core.List.{List, [], ◌∷◌, ◌++◌}
-use Prim.Native.Nat.{ℕ}
+use Rattle.std.proofs.Common.{◌≡◌, refl, List, [], ◌∷◌, ◌++◌, ℕ}
 use Rattle.octets.specs.Octets.{part, little, number, number_at, little_of, bytes_of, numbers_of, zeros, padded}
 use Rattle.octets.specs.Lists.{joined as concat, all, those}
-use Rattle.octets.specs.Checked.{pass, refuse, ◌>>=◌, require, renumbered}
+use Rattle.std.specs.Prelude.{Ok, Err}
+use Rattle.octets.specs.Checked.{◌>>=◌, require, renumbered}
 use Rattle.answers.specs.Answers.{refused, short, made, answered}
 use Rattle.bundle.specs.Bundle.{filled_up, object_step, section_step, end_step, step_of, step_at, followed, items_from, items, leading, objects_of, object_first, bundle_of, length_good, parts_of, count, first_part, body}
 use Rattle.bundle.specs.Encoding.{encoding_of, encoding_good}
@@ -38,23 +37,23 @@ none = words (0xF000_0000 ∷ 0x3000_0002 ∷ [])
 abbrev pub Joins : Type 0
 Joins =
     -- none so far; the second behind the first; nothing behind it, and it behind nothing
-    (joined [] first ≡ pass first)
-    × (joined first second ≡ pass both)
-    × (joined first none ≡ pass first)
-    × (joined none second ≡ pass second)
+    (joined [] first ≡ Ok first)
+    × (joined first second ≡ Ok both)
+    × (joined first none ≡ Ok first)
+    × (joined none second ≡ Ok second)
     -- a file that is no bundle, alone and behind the first; one of the other byte order
-    × (joined [] broken ≡ refuse 3)
-    × (joined first broken ≡ refuse 3)
-    × (joined first other ≡ refuse 45)
+    × (joined [] broken ≡ Err 3)
+    × (joined first broken ≡ Err 3)
+    × (joined first other ≡ Err 45)
     -- what isn't framed: an end that counts too few, a head alone, bytes that aren't words. The objects between are not looked at
-    × (joined broken second ≡ refuse 3)
-    × (joined (words (0xF000_0000 ∷ [])) second ≡ refuse 3)
-    × (joined (first ++ (0 ∷ [])) second ≡ refuse 3)
-    × (joined (words (0xF000_0002 ∷ 0x3000_0002 ∷ [])) second ≡ refuse 3)
-    × (joined (words (0xF000_0000 ∷ 0x5 ∷ 0x3000_0003 ∷ [])) none ≡ pass (words (0xF000_0000 ∷ 0x5 ∷ 0x3000_0003 ∷ [])))
+    × (joined broken second ≡ Err 3)
+    × (joined (words (0xF000_0000 ∷ [])) second ≡ Err 3)
+    × (joined (first ++ (0 ∷ [])) second ≡ Err 3)
+    × (joined (words (0xF000_0002 ∷ 0x3000_0002 ∷ [])) second ≡ Err 3)
+    × (joined (words (0xF000_0000 ∷ 0x5 ∷ 0x3000_0003 ∷ [])) none ≡ Ok (words (0xF000_0000 ∷ 0x5 ∷ 0x3000_0003 ∷ [])))
 
 pub joins : Joins
-unfolding elf_bundle part little number number_at little_of bytes_of numbers_of zeros concat all ◌>>=◌ require filled_up object_step section_step end_step step_of step_at followed items_from items leading objects_of object_first bundle_of word_bytes end_bytes as_it_is as_bundle file_bundle framed contents behind starts_elf joined_with joined_behind joined
+unfolding elf_bundle part little number number_at little_of bytes_of numbers_of zeros ◌>>=◌ require filled_up object_step section_step end_step step_of step_at followed items_from items leading objects_of object_first bundle_of word_bytes end_bytes as_it_is as_bundle file_bundle framed contents behind starts_elf joined_with joined_behind joined
 joins = (refl, refl, refl, refl, refl, refl, refl, refl, refl, refl, refl, refl)
 
 -- memory with room, without, and after refusals
@@ -70,19 +69,19 @@ Memories =
     × (joining (1 ∷ 2 ∷ []) 0 second ≡ short 20)
 
 pub memories : Memories
-unfolding elf_bundle part little number number_at little_of bytes_of numbers_of zeros padded concat all ◌>>=◌ require filled_up object_step section_step end_step step_of step_at followed items_from items leading objects_of object_first bundle_of word_bytes end_bytes as_it_is as_bundle file_bundle framed contents behind starts_elf joined_with joined_behind joined answered joining memory_after
+unfolding elf_bundle part little number number_at little_of bytes_of numbers_of zeros padded ◌>>=◌ require filled_up object_step section_step end_step step_of step_at followed items_from items leading objects_of object_first bundle_of word_bytes end_bytes as_it_is as_bundle file_bundle framed contents behind starts_elf joined_with joined_behind joined answered joining memory_after
 memories = (refl, refl, refl, refl, refl, refl, refl, refl)
 
 -- the law told of two files: what is joined, and the objects that it speaks of
 abbrev pub Together : Type 0
 Together =
-    (joined_all [] (first ∷ second ∷ []) ≡ pass both)
+    (joined_all [] (first ∷ second ∷ []) ≡ Ok both)
     × (all_objects (first ∷ second ∷ [])
     ≡ record { word = 0x1008_0405; sections = record { code = 1; bytes = 0x11 ∷ [] } ∷ [] } ∷ record { word = 0x1008_0404; sections = record { code = 3; bytes = 0x11 ∷ 0x22 ∷ [] } ∷ [] } ∷ [])
-    × (joined_all [] (first ∷ other ∷ second ∷ []) ≡ refuse 45)
+    × (joined_all [] (first ∷ other ∷ second ∷ []) ≡ Err 45)
 
 pub together : Together
-unfolding elf_bundle part little number number_at little_of bytes_of numbers_of zeros concat all ◌>>=◌ require filled_up object_step section_step end_step step_of step_at followed items_from items leading objects_of object_first bundle_of word_bytes end_bytes as_it_is as_bundle file_bundle framed contents behind starts_elf joined_with joined_behind joined joined_all section_in object_in objects_read objects_in file_objects all_objects
+unfolding elf_bundle part little number number_at little_of bytes_of numbers_of zeros ◌>>=◌ require filled_up object_step section_step end_step step_of step_at followed items_from items leading objects_of object_first bundle_of word_bytes end_bytes as_it_is as_bundle file_bundle framed contents behind starts_elf joined_with joined_behind joined joined_all section_in object_in objects_read objects_in file_objects all_objects
 together = (refl, refl, refl)
 
 -- files opened as packages
@@ -99,5 +98,5 @@ Opens =
     × (opened [] 0 ≡ refused 21)
 
 pub opens : Opens
-unfolding elf_bundle part little number number_at little_of bytes_of numbers_of zeros concat all those ◌>>=◌ require renumbered filled_up object_step section_step end_step step_of step_at followed items_from items leading objects_of object_first bundle_of length_good parts_of count first_part body encoding_of encoding_good codes package_index object_judged objects_judged package_of starts_elf answered words_of made_package judged opened
+unfolding elf_bundle part little number number_at little_of bytes_of numbers_of zeros ◌>>=◌ require renumbered filled_up object_step section_step end_step step_of step_at followed items_from items leading objects_of object_first bundle_of length_good parts_of count first_part body encoding_of encoding_good codes package_index object_judged objects_judged package_of starts_elf answered words_of made_package judged opened
 opens = (refl, refl, refl, refl, refl, refl, refl)

@@ -1,15 +1,7 @@
 -- The law on joined files: bundles that are written, one behind the other.
-use mathlib.Core.Path.{◌≡◌, refl, sym, ap, ◌∙◌, subst}
-use mathlib.Core.Bool.{Bool, true, false}
-use mathlib.Core.List.{List, [], ◌∷◌, ◌++◌, map, append-nil, append_assoc}
-use Prim.Native.Nat.{ℕ, ◌+◌, ◌-◌, ◌/◌, ◌≤◌, ◌<◌}
-use native.Mathlib.Omega.{arith}
-use lib.Dec.{eqb, leb}
-use lib.ListN.{length, take, drop, length-append}
-use lib.Seq.{take_at, drop_at}
-use borrow.Author.Tests.{eqb-true, leb-true, ne_eqb}
+use Rattle.std.proofs.Common.{◌≡◌, refl, sym, ap, ◌∙◌, subst, Bool, true, false, List, [], ◌∷◌, ◌++◌, map, append-nil, append_assoc, ℕ, ◌+◌, ◌-◌, ◌/◌, ◌≤◌, ◌<◌, arith, eqb, leb, length, take, drop, length-append, take_at, drop_at, eqb-true, leb-true, ne_eqb}
 use Rattle.octets.specs.Lists.{joined as concat}
-use Rattle.octets.specs.Checked.{pass}
+use Rattle.std.specs.Prelude.{Ok}
 use Rattle.octets.proofs.Checks.{bind_pass, require_pass, pass_inj}
 use Rattle.octets.proofs.Joined.{map-append, joined_append}
 use Rattle.octets.proofs.Numbers.{Bytes, bytes_drop, bytes_take}
@@ -67,10 +59,10 @@ record Standing (b : List ℕ) (big : Bool) (os : List Sections) : Type 0 where
 
 -- read, it holds the objects
 read_again : (b : List ℕ) (big : Bool) (os : List Sections) → Standing b big os
-    → (u : Bundle) × (bundle_of b ≡ pass u) × (u.big ≡ big) × (map (back.object_in b) u.objects ≡ os)
+    → (u : Bundle) × (bundle_of b ≡ Ok u) × (u.big ≡ big) × (map (back.object_in b) u.objects ≡ os)
 read_again b big os s =
     let small : length (written big os) < 0x4000_0000 = omega (arith, ap length s.is, s.small) in
-    subst (λ (z : List ℕ). (u : Bundle) × (bundle_of z ≡ pass u) × (u.big ≡ big) × (map (back.object_in z) u.objects ≡ os)) (sym s.is) (round_trip big os s.good small)
+    subst (λ (z : List ℕ). (u : Bundle) × (bundle_of z ≡ Ok u) × (u.big ≡ big) × (map (back.object_in z) u.objects ≡ os)) (sym s.is) (round_trip big os s.good small)
 
 holds : (b : List ℕ) (big : Bool) (os : List Sections) (fs : List (List ℕ)) → Standing b big os → EachRead big fs → os ≡ all_objects fs → HoldsAll b fs
 unfolding object_in section_in back.object_in back.section_in
@@ -83,11 +75,11 @@ module _ (f b : List ℕ) (m : Made f b) where
   alone : Standing b m.big m.objects
   alone = record { is = m.is; good = m.good; small = m.small; are_bytes = m.are_bytes }
 
-  made_objects : file_bundle f ≡ pass b → file_objects f ≡ m.objects
+  made_objects : file_bundle f ≡ Ok b → file_objects f ≡ m.objects
   unfolding file_objects objects_in objects_read object_in section_in back.object_in back.section_in
   made_objects e = let r = read_again b m.big m.objects alone in rw e (rw r.1 r.3)
 
-  is_read : file_bundle f ≡ pass b → ReadIn m.big f
+  is_read : file_bundle f ≡ Ok b → ReadIn m.big f
   is_read e = let r = read_again b m.big m.objects alone in record { bundle = b; made = e; objects = r.0; read = r.1; order = r.2 }
 
 same_order : (big other : Bool) → head_word big ≡ head_word other → big ≡ other
@@ -107,7 +99,7 @@ bytes_behind old b g h =
     (bytes_word (0x3000_0000 + (length (front ++ more) + 4) / 4))
 
 -- ---- one file more
-one_more : (old f c : List ℕ) (big : Bool) (os : List Sections) → Bytes f → Standing old big os → joined old f ≡ pass c → Standing c big (os ++ file_objects f) × ReadIn big f
+one_more : (old f c : List ℕ) (big : Bool) (os : List Sections) → Bytes f → Standing old big os → joined old f ≡ Ok c → Standing c big (os ++ file_objects f) × ReadIn big f
 unfolding joined joined_with joined_behind
 one_more old f c big os g s h =
     let n : length old ≡ 0 → ⊥ = λ z. omega (arith, z, ap length s.is, length_written big os) in
@@ -116,7 +108,7 @@ one_more old f c big os g s h =
     let r = bind_pass (file_bundle f) (joined_with old) c w.1 in
     on r.0 r.1 r.2
   where
-    on : (b : List ℕ) → file_bundle f ≡ pass b → joined_with old b ≡ pass c → Standing c big (os ++ file_objects f) × ReadIn big f
+    on : (b : List ℕ) → file_bundle f ≡ Ok b → joined_with old b ≡ Ok c → Standing c big (os ++ file_objects f) × ReadIn big f
     on b e j =
         let m = file_made f b g e in
         let o = require_pass (eqb (head_of old) (head_of b)) 45 _ c j in
@@ -137,7 +129,7 @@ one_more old f c big os g s h =
         (subst (λ (z : List Sections). Standing c big (os ++ z)) (sym k) more, subst (λ (z : Bool). ReadIn z f) order (is_read f b m e))
 
 -- ---- all files
-all_more : (fs : List (List ℕ)) (old c : List ℕ) (big : Bool) (os : List Sections) → AllBytes fs → Standing old big os → joined_all old fs ≡ pass c
+all_more : (fs : List (List ℕ)) (old c : List ℕ) (big : Bool) (os : List Sections) → AllBytes fs → Standing old big os → joined_all old fs ≡ Ok c
     → Standing c big (os ++ all_objects fs) × EachRead big fs
 unfolding joined_all all_objects AllBytes EachRead
 all_more [] old c big os g s h =

@@ -1,10 +1,6 @@
 -- The memory of a bundle that a file is joined to, store by store: m is what it held, and n how many bytes the bundle has.
-use mathlib.Core.Path.{◌≡◌, refl, sym, ap, ◌∙◌}
-use mathlib.Core.List.{List, [], ◌++◌, append-nil, append_assoc}
-use Prim.Native.Nat.{ℕ, ◌+◌, ◌-◌, ◌≤◌}
-use native.Mathlib.Omega.{arith}
-use lib.ListN.{length, take, drop, length-append, length-take, length-drop, take-append-drop}
-use lib.Seq.{take_at, drop_at, take-take, take-add, drop-append-le, drop-append-add, length-take-le}
+use Rattle.std.proofs.Common.{◌≡◌, refl, sym, ap, ◌∙◌, List, [], ◌++◌, append-nil, append_assoc, ℕ, ◌+◌, ◌-◌, ◌≤◌, arith, length, take, drop, length-append, length-take, length-drop, take-append-drop, take_at, drop_at, take-take, take-add, length-take-le}
+use lib.Seq.{drop-append-le, drop-append-add}
 use borrow.Rule.Slice.PartMut.{put_mid}
 use Rattle.octets.specs.Octets.{part, placed, padded, zeros}
 use Rattle.octets.proofs.Parts.{drop_take, length_part}

@@ -1,13 +1,7 @@
 -- What an opened file answers, from what was read of it.
-use mathlib.Core.Path.{◌≡◌, refl, sym, ap, ◌∙◌}
-use mathlib.Core.Bool.{Bool, true, false, cond}
-use mathlib.Core.List.{List}
-use Prim.Native.Nat.{ℕ, ◌-◌, ◌≤◌}
-use native.Mathlib.Omega.{arith}
-use lib.ListN.{length, take}
-use lib.Seq.{take_at}
+use Rattle.std.proofs.Common.{◌≡◌, refl, sym, ap, ◌∙◌, Bool, true, false, cond, List, ℕ, ◌-◌, ◌≤◌, arith, length, take, take_at}
 use Rattle.octets.specs.Octets.{padded, zeros}
-use Rattle.octets.specs.Checked.{pass, refuse}
+use Rattle.std.specs.Prelude.{Ok, Err}
 use Rattle.octets.proofs.Checks.{pass_refuse}
 use Rattle.octets.proofs.Placed.{length_padded}
 use Rattle.answers.specs.Answers.{Answer, refused, short, made, answered, written_of, output_of}
@@ -26,7 +20,7 @@ module _ (f : List ℕ) where
   unfolding words_of
   words_elf e = sym (rw e)
 
-  pub words_other : starts_elf f ≡ false → pass f ≡ words_of f
+  pub words_other : starts_elf f ≡ false → Ok f ≡ words_of f
   unfolding words_of
   words_other e = sym (rw e)
 
@@ -34,7 +28,7 @@ module _ (f : List ℕ) where
   unfolding words_of
   words_plain n = go (starts_elf f)
     where
-      go : (t : Bool) → cond t (elf_bundle f) (pass f) ≡ refuse n → Plain n
+      go : (t : Bool) → cond t (elf_bundle f) (Ok f) ≡ Err n → Plain n
       go true e = read_plain f n e
       go false e = absurd (pass_refuse f n e)
 
@@ -74,13 +68,13 @@ module _ (f : List ℕ) where
       judged_is = ap judged there.whole
 
       -- a package
-      pub packaged : (h : PackageHead) → pass h ≡ lookups.opened (package_of (take a.length x)) → answered (words_of f) o ≡ opened f o
+      pub packaged : (h : PackageHead) → Ok h ≡ lookups.opened (package_of (take a.length x)) → answered (words_of f) o ≡ opened f o
       unfolding lookups.opened made_package
       packaged h e =
           let r = mapped_pass _ (package_of (take a.length x)) h e in
           there.whole ∙ sym (judged_is ∙ ap (made_package there.bytes) (ap package_of (sym taken) ∙ r.1))
 
       -- none
-      pub unpackaged : (n : ℕ) → refuse n ≡ lookups.opened (package_of (take a.length x)) → opened f o ≡ refused n
+      pub unpackaged : (n : ℕ) → Err n ≡ lookups.opened (package_of (take a.length x)) → opened f o ≡ refused n
       unfolding lookups.opened made_package
       unpackaged n e = judged_is ∙ ap (made_package there.bytes) (ap package_of (sym taken) ∙ mapped_refuse _ (package_of (take a.length x)) n e)

@@ -1,7 +1,7 @@
 -- Files joined to one bundle: the objects of each file stand behind those of the files before it.
-use Rattle.std.specs.Prelude.{Bool, false, ◌&&◌, ◌||◌, List, ◌++◌, ℕ, ◌+◌, ◌-◌, ◌/◌, ◌%◌, ◌==◌, nat_le, if◌then◌else◌, length, take, drop, slice_index}
+use Rattle.std.specs.Prelude.{Bool, false, ◌&&◌, ◌||◌, List, ◌++◌, ℕ, ◌+◌, ◌-◌, ◌/◌, ◌%◌, ◌==◌, nat_le, if◌then◌else◌, length, take, drop, slice_index, Result, Ok}
 use Rattle.octets.specs.Octets.{number_at, padded}
-use Rattle.octets.specs.Checked.{Check, pass, ◌>>=◌, require}
+use Rattle.octets.specs.Checked.{◌>>=◌, require}
 use Rattle.numbers.specs.Limits.{package_limit}
 use Rattle.numbers.specs.Refusals.{bad_words, section_too_long}
 use Rattle.answers.specs.Answers.{Answer, refused, short, made, answered}
@@ -20,18 +20,18 @@ unfoldable pub starts_elf : List ℕ → Bool
 starts_elf f = nat_le 4 (length f) && number_at false 4 f 0 == 0x464C_457F
 
 -- it isn't longer than what may be read (19)
-unfoldable pub as_it_is : List ℕ → Check (List ℕ)
-as_it_is f = require (nat_le (length f) package_limit) section_too_long >>= λ _. pass f
+unfoldable pub as_it_is : List ℕ → Result (List ℕ) ℕ
+as_it_is f = require (nat_le (length f) package_limit) section_too_long >>= λ _. Ok f
 
 -- a bundle or a package is taken as it is: its words are well formed (3)
-unfoldable pub as_bundle : List ℕ → Check (List ℕ)
+unfoldable pub as_bundle : List ℕ → Result (List ℕ) ℕ
 as_bundle f = bundle_of f >>= λ _. as_it_is f
 
 -- an ELF file is read into one (31 to 33, 19), by its class: 1 is 32 bits
-unfoldable pub elf_bundle : List ℕ → Check (List ℕ)
+unfoldable pub elf_bundle : List ℕ → Result (List ℕ) ℕ
 elf_bundle f = if slice_index f 4 == 1 then bundle32_read f else bundle_read f
 
-unfoldable pub file_bundle : List ℕ → Check (List ℕ)
+unfoldable pub file_bundle : List ℕ → Result (List ℕ) ℕ
 file_bundle f = if starts_elf f then elf_bundle f else as_bundle f
 
 -- ---- the bundle joined so far. Only its head word and its end word are looked at: each file was judged when it was joined
@@ -56,17 +56,17 @@ behind old b =
     front ++ end_bytes (length front)
 
 -- the byte order is the same (45), and both together are not longer than what may be read (19)
-unfoldable pub joined_with : List ℕ → List ℕ → Check (List ℕ)
+unfoldable pub joined_with : List ℕ → List ℕ → Result (List ℕ) ℕ
 joined_with old b = do
   _ ← require (head_of old == head_of b) other_order
   _ ← require (nat_le (length (behind old b)) package_limit) section_too_long
-  pass (behind old b)
+  Ok (behind old b)
 
-unfoldable pub joined_behind : List ℕ → List ℕ → Check (List ℕ)
+unfoldable pub joined_behind : List ℕ → List ℕ → Result (List ℕ) ℕ
 joined_behind old f = file_bundle f >>= joined_with old
 
 -- a file behind the bundle joined so far; no bytes are none so far
-unfoldable pub joined : List ℕ → List ℕ → Check (List ℕ)
+unfoldable pub joined : List ℕ → List ℕ → Result (List ℕ) ℕ
 joined old f = if length old == 0 then file_bundle f else (require (framed old) bad_words >>= λ _. joined_behind old f)
 
 -- ---- in lent memory

@@ -1,14 +1,14 @@
 -- What is joined of files holds exactly their objects, in the files' order.
-use Rattle.std.specs.Prelude.{◌≡◌, Bool, List, [], ◌∷◌, ◌++◌, map, ℕ, ◌<◌, slice_index}
-use Rattle.octets.specs.Checked.{Check, pass, refuse, ◌>>=◌}
+use Rattle.std.specs.Prelude.{◌≡◌, Bool, List, [], ◌∷◌, ◌++◌, map, ℕ, ◌<◌, slice_index, Result, Ok, Err}
+use Rattle.octets.specs.Checked.{◌>>=◌}
 use Rattle.octets.specs.Octets.{part}
 use Rattle.bundle.specs.Bundle.{Part, Object, Bundle, bundle_of}
 use Rattle.bundle.specs.Written.{Section, Sections}
 use Rattle.join.specs.Join.{file_bundle, joined}
 
 -- files joined one after the other behind a bundle
-unfoldable pub joined_all : List ℕ → List (List ℕ) → Check (List ℕ)
-joined_all b [] = pass b
+unfoldable pub joined_all : List ℕ → List (List ℕ) → Result (List ℕ) ℕ
+joined_all b [] = Ok b
 joined_all b (f ∷ fs) = joined b f >>= λ c. joined_all c fs
 
 -- ---- the objects of files
@@ -19,13 +19,13 @@ section_in b p = record { code = p.code; bytes = part b p.start p.size }
 unfoldable pub object_in : List ℕ → Object → Sections
 object_in b o = record { word = o.word; sections = map (section_in b) o.parts }
 
-unfoldable pub objects_read : List ℕ → Check Bundle → List Sections
-objects_read b (pass u) = map (object_in b) u.objects
-objects_read b (refuse n) = []
+unfoldable pub objects_read : List ℕ → Result Bundle ℕ → List Sections
+objects_read b (Ok u) = map (object_in b) u.objects
+objects_read b (Err n) = []
 
-unfoldable pub objects_in : Check (List ℕ) → List Sections
-objects_in (pass b) = objects_read b (bundle_of b)
-objects_in (refuse n) = []
+unfoldable pub objects_in : Result (List ℕ) ℕ → List Sections
+objects_in (Ok b) = objects_read b (bundle_of b)
+objects_in (Err n) = []
 
 -- those of the bundle that its reader makes of a file, with the bytes that they have there
 unfoldable pub file_objects : List ℕ → List Sections
@@ -44,9 +44,9 @@ AllBytes (f ∷ fs) = ((i : ℕ) → slice_index f i < 256) × AllBytes fs
 -- a file is read, as a bundle of this byte order
 pub record ReadIn (big : Bool) (f : List ℕ) : Type 0 where
   pub bundle : List ℕ
-  pub made : file_bundle f ≡ pass bundle
+  pub made : file_bundle f ≡ Ok bundle
   pub objects : Bundle
-  pub read : bundle_of bundle ≡ pass objects
+  pub read : bundle_of bundle ≡ Ok objects
   pub order : objects.big ≡ big
 
 unfoldable pub EachRead : Bool → List (List ℕ) → Type 0
@@ -57,10 +57,10 @@ EachRead big (f ∷ fs) = ReadIn big f × EachRead big fs
 pub record HoldsAll (b : List ℕ) (fs : List (List ℕ)) : Type 0 where
   pub are_bytes : (i : ℕ) → slice_index b i < 256
   pub bundle : Bundle
-  pub read : bundle_of b ≡ pass bundle
+  pub read : bundle_of b ≡ Ok bundle
   pub each_read : EachRead bundle.big fs
   pub objects : map (object_in b) bundle.objects ≡ all_objects fs
 
 abbrev pub JoinedHolds : Type 0
 JoinedHolds =
-    (f : List ℕ) (fs : List (List ℕ)) (b : List ℕ) → AllBytes (f ∷ fs) → joined_all [] (f ∷ fs) ≡ pass b → HoldsAll b (f ∷ fs)
+    (f : List ℕ) (fs : List (List ℕ)) (b : List ℕ) → AllBytes (f ∷ fs) → joined_all [] (f ∷ fs) ≡ Ok b → HoldsAll b (f ∷ fs)

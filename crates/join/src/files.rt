@@ -1,7 +1,6 @@
 // One file as a bundle: an ELF file is read, and a bundle or a package is taken as it is.
-ghost use Rattle.std.specs.Prelude.{◌≡◌, ◌==◌, ◌≤◌, length, slice_index};
+ghost use Rattle.std.specs.Prelude.{◌≡◌, ◌==◌, ◌≤◌, length, slice_index, Some, Ok, Err};
 ghost use Rattle.octets.specs.Octets.{zeros};
-ghost use Rattle.octets.specs.Checked.{pass};
 ghost use Rattle.numbers.specs.Refused.{number_of};
 ghost use Rattle.numbers.specs.Refusals.{output_short};
 ghost use Rattle.answers.specs.Answers.{output_of, written_of, answered};
@@ -114,8 +113,8 @@ pub fn refuse(refusal: Refusal, output: &mut [u8]) -> Written
 
 // These words and zeros, or 18 with the length that is needed.
 pub fn put_words(words: &[u8], output: &mut [u8]) -> Written
-    ensures answer { result ≡ written_of (answered (pass words.now) (length output.old)) }
-    ensures output { output.new ≡ output_of (answered (pass words.now) (length output.old)) (length output.old) }
+    ensures answer { result ≡ written_of (answered (Ok words.now) (length output.old)) }
+    ensures output { output.new ≡ output_of (answered (Ok words.now) (length output.old)) (length output.old) }
 {
     if output.len() < words.len() {
         clear(output);

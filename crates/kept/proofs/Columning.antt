@@ -1,15 +1,10 @@
 -- The columns of a version as the code reads them, and those that some row has.
-use mathlib.Core.Path.{◌≡◌, refl, sym, ap, ap₂, ◌∙◌}
-use mathlib.Core.Bool.{Bool, true, false, ◌||◌}
-use mathlib.Core.List.{List, [], ◌∷◌, ◌++◌, map}
-use Prim.Native.Nat.{ℕ, zero, suc, ◌^◌, ◌≤◌, ◌<◌}
-use native.Mathlib.Omega.{arith}
+use Rattle.std.proofs.Common.{◌≡◌, refl, sym, ap, ap₂, ◌∙◌, Bool, true, false, ◌||◌, List, [], ◌∷◌, ◌++◌, map, ℕ, zero, suc, ◌^◌, ◌≤◌, ◌<◌, arith, rules, length, get_or}
 use native.Mathlib.Decide.{dec_lt}
-use borrow.Author.Rules.{rules}
 use Rattle.std.specs.Prelude.{All}
 use Rattle.std.proofs.lemmas.List.Elements.{All-get_or}
 use Rattle.kept.proofs.Moved.{get_d_past}
-use lib.ListN.{length, get_or, length-map}
+use lib.ListN.{length-map}
 use Rattle.octets.specs.Lists.{any}
 use Rattle.octets.proofs.Lists.{any_append}
 use Rattle.index.specs.Cells.{column_place}
@@ -127,16 +122,14 @@ pub record Marking (five : Bool) (has marked : List Bool) (cells : Contributions
   pub rest : (j : ℕ) → k ≤ j → get_or marked j false ≡ get_or has j false
 
 pub columns_none : (five : Bool) (has : List Bool) → ((k : ℕ) → get_or has k false ≡ false) → ColumnsHeld five has []
-unfolding any
 columns_none five has e = record { there = λ k h. e k }
 
 any_one : {A : Type 0} (f : A → Bool) (x : A) → any f (x ∷ []) ≡ f x
-unfolding any
 any_one f x = go (f x) refl
   where
     go : (b : Bool) → f x ≡ b → any f (x ∷ []) ≡ f x
-    go true e = rw (any, e)
-    go false e = rw (any, e)
+    go true e = rw e
+    go false e = rw e
 
 -- the columns that some row has, and those of one row more
 pub columns_more : (five : Bool) (has more : List Bool) (rs : List Row) (r : Row) (cells : Contributions) → ColumnsHeld five has rs → ContributionsAre cells r.cells

@@ -1,11 +1,5 @@
 -- The bytes of records, one behind the other: one record, and those behind it.
-use mathlib.Core.Path.{◌≡◌, refl, sym, ap, ap₂, ◌∙◌}
-use mathlib.Core.Bool.{Bool}
-use mathlib.Core.List.{List, [], ◌∷◌, ◌++◌, map, append-nil}
-use Prim.Native.Nat.{ℕ, zero, suc, ◌+◌, ◌*◌, ◌-◌, ◌/◌, ◌%◌, ◌^◌, ◌<◌, ◌≤◌}
-use native.Mathlib.Omega.{arith}
-use lib.ListN.{length, get_or, length-append}
-use borrow.Author.Tests.{eq-eqb, ne_eqb}
+use Rattle.std.proofs.Common.{◌≡◌, refl, sym, ap, ap₂, ◌∙◌, Bool, List, [], ◌∷◌, ◌++◌, map, append-nil, ℕ, zero, suc, ◌+◌, ◌*◌, ◌-◌, ◌/◌, ◌%◌, ◌^◌, ◌<◌, ◌≤◌, arith, length, get_or, length-append, eq-eqb, ne_eqb}
 use Rattle.octets.specs.Octets.{part, placed}
 use Rattle.octets.specs.Lists.{joined, those}
 use Rattle.octets.proofs.Lists.{those_append, those_keeps, those_skips}
@@ -32,11 +26,11 @@ module _ (b w : List ℕ) (i : ℕ) where
 
 module _ (b w : List ℕ) (home i : ℕ) where
   pub bytes_other : ((record_at w i).home ≡ home → ⊥) → bytes_from b w home i 1 ≡ []
-  unfolding bytes_from records_from in_home those joined
+  unfolding bytes_from records_from in_home
   bytes_other e = ap (λ (l : List KeptUnit). joined (map (bytes_of b) l)) (those_skips (in_home home) (record_at w i) [] (ne_eqb _ _ e))
 
   pub bytes_own : (record_at w i).home ≡ home → bytes_from b w home i 1 ≡ part b (record_at w i).start (record_at w i).size
-  unfolding bytes_from records_from in_home those joined bytes_of
+  unfolding bytes_from records_from in_home bytes_of
   bytes_own e =
       ap (λ (l : List KeptUnit). joined (map (bytes_of b) l)) (those_keeps (in_home home) (record_at w i) [] (eq-eqb _ _ e)) ∙ append-nil (bytes_of b (record_at w i))
 
@@ -50,7 +44,7 @@ module _ (b w : List ℕ) (home i : ℕ) where
   words_own e = bytes_own e
 
   pub bytes_turn : (n : ℕ) → i < n → bytes_from b w home i (n - i) ≡ bytes_from b w home i 1 ++ bytes_from b w home (i + 1) (n - (i + 1))
-  unfolding bytes_from records_from joined
+  unfolding bytes_from records_from
   bytes_turn n h =
       let g = in_home home in
       ap (λ (l : List KeptUnit). joined (map (bytes_of b) (those g l))) (records_turn w i n h)
@@ -59,7 +53,7 @@ module _ (b w : List ℕ) (home i : ℕ) where
       ∙ joined_append (map (bytes_of b) (those g (record_at w i ∷ []))) (map (bytes_of b) (those g (records_from w (i + 1) (n - (i + 1)))))
 
   pub bytes_end : (n : ℕ) → n ≤ i → bytes_from b w home i (n - i) ≡ []
-  unfolding bytes_from those joined
+  unfolding bytes_from
   bytes_end n h = ap (λ (l : List KeptUnit). joined (map (bytes_of b) (those (in_home home) l))) (records_end w i n h)
 
 -- ---- what is left to be copied, and that all then stands at the first place

@@ -1,16 +1,7 @@
 -- Work that holds the kept units: none, and one more.
-use mathlib.Core.Path.{◌≡◌, refl, sym, ap, ap₂, ◌∙◌, subst}
-use mathlib.Core.Bool.{Bool}
-use mathlib.Core.Logic.{inl, inr, ⊎_elim}
-use mathlib.Core.List.{List, [], ◌∷◌, ◌++◌, map, append-nil}
-use mathlib.Core.Option.{Option}
-use Prim.Native.Nat.{ℕ, zero, suc, ◌+◌, ◌*◌, ◌-◌, ◌<◌, ◌≤◌}
-use native.Mathlib.Nat.{not-suc-le-zero}
-use native.Mathlib.Omega.{arith}
+use Rattle.std.proofs.Common.{◌≡◌, refl, sym, ap, ap₂, ◌∙◌, subst, Bool, inl, inr, ⊎_elim, List, [], ◌∷◌, ◌++◌, map, append-nil, ℕ, zero, suc, ◌+◌, ◌*◌, ◌-◌, ◌<◌, ◌≤◌, not-suc-le-zero, arith, length, get_or, set, length-append, get_or-set_same, get_or-set_other, eq-eqb, ne_eqb}
+use Rattle.std.specs.Prelude.{Option}
 use native.Mathlib.Decide.{ℕ_discrete, dec_lt}
-use lib.ListN.{length, get_or, set, length-append}
-use lib.Seq.{get_or-set_same, get_or-set_other}
-use borrow.Author.Tests.{eq-eqb, ne_eqb}
 use Rattle.octets.specs.Octets.{part, placed}
 use Rattle.octets.specs.Lists.{those, joined}
 use Rattle.octets.proofs.Joined.{map-append}
@@ -198,7 +189,7 @@ module _ (five : Bool) (w : List ℕ) (n : ℕ) (k : KeptUnit) (many : length k.
 -- ---- all units
 pub units_none : (five : Bool) (b w : List ℕ) (slots : ℕ → List ℕ) (u : Units) → u.count ≡ 0 → u.info ≡ 0 → u.types ≡ 0
     → ((t : ℕ) → OneOrTwo t → TableHeld five w 0 (slots t) t (pick t u.cu u.tu) []) → UnitsHeld five b w slots u []
-unfolding rows_of unit_bytes entries_from those joined bytes_from records_from
+unfolding rows_of unit_bytes entries_from bytes_from records_from
 units_none five b w slots u c i y tables = record {
   count = c;
   inside = record { is = λ j h. absurd (not-suc-le-zero (rw c at h)) };
@@ -211,24 +202,24 @@ units_none five b w slots u c i y tables = record {
 -- the rows of the definition with one unit more
 rows_own : (ks : List Filed) (y : Filed) (t : ℕ) → y.table ≡ t
     → rows_of (ks ++ (y ∷ [])) t ≡ rows_of ks t ++ (record { identity = y.identity; cells = cells_by y.contributions y.bases y.home (length (unit_bytes ks y.home)) (length y.bytes) } ∷ [])
-unfolding rows_from row_at entries_from those cells cells_by
+unfolding rows_from row_at entries_from cells cells_by
 rows_own ks y t e =
     let place : behind_all nothing_before ks y.home ≡ length (unit_bytes ks y.home) = behind_at nothing_before ks y.home ∙ omega arith in
     row_stands ks y [] t e ∙ ap (λ (p : ℕ). rows_of ks t ++ (record { identity = y.identity; cells = cells y p } ∷ [])) place
 
 rows_other : (ks : List Filed) (y : Filed) (t : ℕ) → (y.table ≡ t → ⊥) → rows_of (ks ++ (y ∷ [])) t ≡ rows_of ks t
-unfolding rows_from entries_from those
+unfolding rows_from entries_from
 rows_other ks y t e =
     rows_are (ks ++ (y ∷ [])) t ∙ rows_append nothing_before ks (y ∷ []) t
     ∙ ap (λ (l : List Row). rows_from nothing_before ks t ++ l) (rows_later (behind_all nothing_before ks) y [] t e)
     ∙ append-nil (rows_from nothing_before ks t) ∙ sym (rows_are ks t)
 
 pub bytes_own : (ks : List Filed) (y : Filed) (h : ℕ) → y.home ≡ h → unit_bytes (ks ++ (y ∷ [])) h ≡ unit_bytes ks h ++ y.bytes
-unfolding unit_bytes those joined
+unfolding unit_bytes
 bytes_own ks y h e = unit_append ks (y ∷ []) h ∙ ap (λ (l : List ℕ). unit_bytes ks h ++ l) (unit_here y [] h e ∙ append-nil y.bytes)
 
 pub bytes_other : (ks : List Filed) (y : Filed) (h : ℕ) → (y.home ≡ h → ⊥) → unit_bytes (ks ++ (y ∷ [])) h ≡ unit_bytes ks h
-unfolding unit_bytes those joined
+unfolding unit_bytes
 bytes_other ks y h e = unit_append ks (y ∷ []) h ∙ ap (λ (l : List ℕ). unit_bytes ks h ++ l) (unit_later y [] h e) ∙ append-nil (unit_bytes ks h)
 
 -- what is stored of a unit that is kept: its record behind the others, its number in a free slot, and its columns marked

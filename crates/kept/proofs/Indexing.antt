@@ -1,11 +1,7 @@
 -- The index that records and slots state is the one of the definition.
-use mathlib.Core.Path.{◌≡◌, refl, sym, ap, ap₂, ◌∙◌}
-use mathlib.Core.Bool.{Bool, true, false}
-use mathlib.Core.List.{List, [], ◌∷◌, ◌++◌, map}
-use mathlib.Core.Option.{Option}
-use Prim.Native.Nat.{ℕ, suc, ◌+◌, ◌*◌, ◌<◌}
-use native.Mathlib.Omega.{arith}
-use lib.ListN.{length, get_or, length-map}
+use Rattle.std.proofs.Common.{◌≡◌, refl, sym, ap, ap₂, ◌∙◌, Bool, true, false, List, [], ◌∷◌, ◌++◌, map, ℕ, suc, ◌+◌, ◌*◌, ◌<◌, arith, length, get_or}
+use Rattle.std.specs.Prelude.{Option}
+use lib.ListN.{length-map}
 use Rattle.octets.specs.Lists.{joined, those, any}
 use Rattle.octets.proofs.Lists.{those_keeps, those_skips}
 use Rattle.index.specs.Columns.{Column}
@@ -35,7 +31,6 @@ module _ (X : ℕ → ℕ → List ℕ) (v : ℕ → ℕ) (has : List Bool) (f :
 
   picked : (ds : List Column) (k : ℕ) → ((j : ℕ) → j < length ds → get_or has (k + j) false ≡ f (get_or ds j no_column))
       → ((j : ℕ) → j < length ds → v (k + j) ≡ g (get_or ds j no_column)) → X k (length ds) ≡ map g (those f ds)
-  unfolding those
   picked [] k h n = none k
   picked (d ∷ ds) k h n =
       let z : k ≡ k + 0 = omega arith in
@@ -86,7 +81,7 @@ module _ (f : IndexForm) (rs : List Row) (c : ColumnsHeld f.five f.has rs) where
   grid_is : (which : ℕ) (g : Option Contribution → ℕ) (ks : List KeptUnit) (qs : List Row)
       → ((k : KeptUnit) (r : Row) → RowIs f.five k r → (j : ℕ) → j < length (columns_for f.five) → get_or k.cells (which + 2 * j) 0 ≡ g (r.cells (section_at f.five j)))
       → RowsAre f.five ks qs → joined (map (numbers_in f which) ks) ≡ grid g (present_columns (version_for f.five) rs) qs
-  unfolding grid joined numbers_in
+  unfolding grid numbers_in
   grid_is which g [] (q ∷ qs) e x4 = elim x4 [ ]
   grid_is which g (k ∷ ks) [] e x4 = elim x4 [ ]
   grid_is which g [] [] e none = refl

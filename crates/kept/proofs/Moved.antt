@@ -1,19 +1,11 @@
 -- The cells of a unit, and bases, one section after the other.
-use mathlib.Core.Path.{◌≡◌, refl, sym, ap, ap₂, ◌∙◌}
-use mathlib.Core.List.{List, [], ◌∷◌}
-use mathlib.Core.Option.{Option, some, none}
-use Prim.Native.Nat.{ℕ, zero, suc, ◌+◌, ◌^◌, ◌<◌, ◌≤◌}
-use native.Mathlib.Omega.{arith}
+use Rattle.std.proofs.Common.{◌≡◌, refl, sym, ap, ap₂, ◌∙◌, List, [], ◌∷◌, ℕ, zero, suc, ◌+◌, ◌^◌, ◌<◌, ◌≤◌, arith, not-suc-le-zero, le_of_suc-le-suc, length, get_or, set, length-set, get_or-set_same, get_or-set_other, eq-eqb, ne_eqb}
+use Rattle.std.specs.Prelude.{Option, Some, None}
 use native.Mathlib.Decide.{ℕ_discrete, dec_lt}
-use native.Mathlib.Nat.{not-suc-le-zero, le_of_suc-le-suc}
-use lib.ListN.{length, get_or, set, length-set}
-use lib.Seq.{get_or-set_same, get_or-set_other}
-use borrow.Author.Tests.{eq-eqb, ne_eqb}
 use Rattle.index.specs.Index.{Contribution}
 use Rattle.index.specs.Rows.{BySection}
 use Rattle.index.specs.Cells.{cell_found}
 use Rattle.index.specs.Contributed.{Cell, Whole, ContributionsAre, cell_held, stated}
-use Rattle.std.specs.Prelude.{Some, None}
 use Rattle.index.specs.declared.judging.Contributions.{Contributions}
 use Rattle.kept.specs.Columns.{CellsFit}
 use Rattle.kept.specs.Cells.{cells_by, moved_by, CellsAfter, CellsRoom}
@@ -25,7 +17,7 @@ get_d_past (x ∷ l) d (suc c) h = get_d_past l d c (le_of_suc-le-suc h)
 
 -- ---- the cells
 module _ (f : BySection (Option Contribution)) (base : BySection ℕ) (home at size : ℕ) where
-  cell_own : (c : ℕ) → c ≡ home → cells_by f base home at size c ≡ some (record { offset = at; size = size })
+  cell_own : (c : ℕ) → c ≡ home → cells_by f base home at size c ≡ Some (record { offset = at; size = size })
   unfolding cells_by
   cell_own c e = rw (cells_by, eq-eqb c home e)
 
@@ -34,8 +26,8 @@ module _ (f : BySection (Option Contribution)) (base : BySection ℕ) (home at s
   cell_moved c e = go (f c) refl
     where
       go : (o : Option Contribution) → f c ≡ o → moved_by (base c) (cell_found (f c)) ≡ cell_found (cells_by f base home at size c)
-      go (some k) q = rw (cells_by, ne_eqb c home e, q)
-      go none q = rw (cells_by, ne_eqb c home e, q)
+      go (Some k) q = rw (cells_by, ne_eqb c home e, q)
+      go None q = rw (cells_by, ne_eqb c home e, q)
 
 module _ (k : Contributions) (bases : List ℕ) (r : Contributions) (home place size : ℕ) (room : CellsRoom k bases home place size) (after : CellsAfter k bases r) where
   abbrev own : Cell

@@ -1,13 +1,6 @@
 -- The pieces of an index, one behind the other: what is stored of each, and their lengths.
-use mathlib.Core.Path.{◌≡◌, refl, sym, ap, ap₂, ◌∙◌}
-use mathlib.Core.Bool.{Bool, true, false}
-use mathlib.Core.List.{List, [], ◌∷◌, ◌++◌, map, append-nil, append_assoc}
-use Prim.Native.Nat.{ℕ, zero, suc, ◌+◌, ◌*◌, ◌-◌, ◌≤◌, ◌<◌}
-use native.Mathlib.Nat.{add-mul, one-mul, zero-mul}
-use native.Mathlib.Numerals.{add-one}
-use native.Mathlib.Omega.{arith}
-use lib.ListN.{length, get_or, length-append, length-map}
-use borrow.Author.Tests.{eq-eqb, ne_eqb}
+use Rattle.std.proofs.Common.{◌≡◌, refl, sym, ap, ap₂, ◌∙◌, Bool, true, false, List, [], ◌∷◌, ◌++◌, map, append-nil, append_assoc, ℕ, zero, suc, ◌+◌, ◌*◌, ◌-◌, ◌≤◌, ◌<◌, add-mul, one-mul, zero-mul, add-one, arith, length, get_or, length-append, eq-eqb, ne_eqb}
+use lib.ListN.{length-map}
 use Rattle.octets.specs.Octets.{part, bytes_of, numbers_of, placed}
 use Rattle.octets.specs.Lists.{those, joined}
 use Rattle.octets.proofs.Lists.{those_append, those_keeps, those_skips}
@@ -125,7 +118,6 @@ unfolding numbers_in codes_in
 length_numbers f which k = length_cells f.five f.has k.cells which 0 (length (columns_for f.five))
 
 length_joined : (f : IndexForm) (which : ℕ) (ks : List KeptUnit) → length (joined (map (numbers_in f which) ks)) ≡ length ks * length (codes_in f.five f.has)
-unfolding joined
 length_joined f which [] = sym (zero-mul (length (codes_in f.five f.has)))
 length_joined f which (k ∷ ks) =
     let c = length (codes_in f.five f.has) in
@@ -140,18 +132,18 @@ length_grid f w which n = length_joined f which (those (in_table f.table) (recor
 -- record i, and those behind it
 module _ (f : IndexForm) (w : List ℕ) (which i : ℕ) where
   pub grid_other : ((record_at w i).table ≡ f.table → ⊥) → grid_from f w which i 1 ≡ []
-  unfolding grid_from records_from in_table those joined
+  unfolding grid_from records_from in_table
   grid_other e = ap (λ (l : List KeptUnit). joined (map (numbers_in f which) l)) (those_skips (in_table f.table) (record_at w i) [] (ne_eqb _ _ e))
 
   pub grid_own : (record_at w i).table ≡ f.table → which ≤ 1
       → grid_from f w which i 1 ≡ cells_from f.has w (record_words * i + cells_place + which) 0 (length (columns_for f.five))
-  unfolding grid_from records_from in_table those joined numbers_in record_at
+  unfolding grid_from records_from in_table numbers_in record_at
   grid_own e h =
       ap (λ (l : List KeptUnit). joined (map (numbers_in f which) l)) (those_keeps (in_table f.table) (record_at w i) [] (eq-eqb _ _ e))
       ∙ append-nil (numbers_in f which (record_at w i)) ∙ sym (record_cells f.has w i which 0 (length (columns_for f.five)) h (omega (arith, columns_are f.five)))
 
   pub grid_turn : (n : ℕ) → i < n → grid_from f w which i (n - i) ≡ grid_from f w which i 1 ++ grid_from f w which (i + 1) (n - (i + 1))
-  unfolding grid_from records_from joined
+  unfolding grid_from records_from
   grid_turn n h =
       let g = in_table f.table in
       ap (λ (l : List KeptUnit). joined (map (numbers_in f which) (those g l))) (records_turn w i n h)
@@ -160,7 +152,7 @@ module _ (f : IndexForm) (w : List ℕ) (which i : ℕ) where
       ∙ joined_append (map (numbers_in f which) (those g (record_at w i ∷ []))) (map (numbers_in f which) (those g (records_from w (i + 1) (n - (i + 1)))))
 
   pub grid_end : (n : ℕ) → n ≤ i → grid_from f w which i (n - i) ≡ []
-  unfolding grid_from those joined
+  unfolding grid_from
   grid_end n h = ap (λ (l : List KeptUnit). joined (map (numbers_in f which) (those (in_table f.table) l))) (records_end w i n h)
 
 -- how far the numbers stand behind the first

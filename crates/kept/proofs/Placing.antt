@@ -1,12 +1,6 @@
 -- The records of a table placed one after the other, in slots of the same work.
-use mathlib.Core.Path.{◌≡◌, refl, sym, ap, ap₂, ◌∙◌, subst}
-use mathlib.Core.Bool.{true, false}
-use mathlib.Core.List.{List, [], ◌∷◌, ◌++◌, append-nil, append_assoc}
-use Prim.Native.Nat.{ℕ, zero, suc, ◌+◌, ◌*◌, ◌-◌, ◌<◌, ◌≤◌}
-use native.Mathlib.Omega.{arith}
+use Rattle.std.proofs.Common.{◌≡◌, refl, sym, ap, ap₂, ◌∙◌, subst, true, false, List, [], ◌∷◌, ◌++◌, append-nil, append_assoc, ℕ, zero, suc, ◌+◌, ◌*◌, ◌-◌, ◌<◌, ◌≤◌, arith, length, take, drop, set, length-append, take-take}
 use native.Mathlib.Decide.{ℕ_discrete}
-use lib.ListN.{length, take, drop, set, length-append}
-use lib.Seq.{take-take}
 use borrow.Rule.Slice.PartMut.{put_mid}
 use Rattle.octets.specs.Octets.{part, placed, zeros}
 use Rattle.octets.specs.Lists.{any, has, those, distinct}
@@ -85,7 +79,7 @@ has_last : (xs : List ℕ) (x y : ℕ) → x ≡ y → has (xs ++ (x ∷ [])) y 
 has_last xs x y q = has_append xs (x ∷ []) y ∙ or_right (has xs y) (has (x ∷ []) y) (has_cons y x [] (sym q))
 
 pub snoc_new : (xs : List ℕ) (x : ℕ) → distinct (xs ++ (x ∷ [])) ≡ true → has xs x ≡ false
-unfolding distinct has any
+unfolding distinct has
 snoc_new [] x e = refl
 snoc_new (y ∷ xs) x e =
     let h = distinct_head y (xs ++ (x ∷ [])) e in
@@ -213,7 +207,7 @@ module _ (words table n count : ℕ) (w₀ : List ℕ) (can : Placeable words (l
       )
 
 pub placing_none : (words table n count : ℕ) (w : List ℕ) → slots_in w words table count ≡ zeros count → Placing words table n count w w 0
-unfolding identities_in of_table records_from those
+unfolding identities_in of_table records_from
 placing_none words table n count w e = record {
   most = omega arith;
   left = record { same = refl; within = record { within = λ k. rw (e, get_d_zeros count k) (omega arith) }; others = λ s a. refl };

@@ -1,13 +1,7 @@
 -- Records one behind the other: one more, and that only their own words count.
-use mathlib.Core.Path.{◌≡◌, refl, sym, ap, ap₂, ◌∙◌}
-use mathlib.Core.Bool.{Bool}
-use mathlib.Core.List.{List, [], ◌∷◌, ◌++◌, map, append-nil}
-use Prim.Native.Nat.{ℕ, zero, suc, ◌+◌, ◌*◌, ◌-◌, ◌/◌, ◌%◌, ◌^◌, ◌<◌, ◌≤◌}
-use native.Mathlib.Omega.{arith}
+use Rattle.std.proofs.Common.{◌≡◌, refl, sym, ap, ap₂, ◌∙◌, Bool, List, [], ◌∷◌, ◌++◌, map, append-nil, ℕ, zero, suc, ◌+◌, ◌*◌, ◌-◌, ◌/◌, ◌%◌, ◌^◌, ◌<◌, ◌≤◌, arith, length, get_or, take_all, eq-eqb, ne_eqb}
 use native.Mathlib.Decide.{ℕ_discrete}
-use lib.ListN.{length, get_or, length-map}
-use lib.Seq.{take_all}
-use borrow.Author.Tests.{eq-eqb, ne_eqb}
+use lib.ListN.{length-map}
 use Rattle.octets.specs.Octets.{part, placed}
 use Rattle.octets.specs.Lists.{those, joined}
 use Rattle.octets.proofs.Lists.{those_append, those_keeps, those_skips}
@@ -138,13 +132,13 @@ module _ (w : List ℕ) (n : ℕ) (k : KeptUnit) (many : length k.cells ≡ cell
   stored_all = records_more stored n ∙ ap₂ (λ (l : List KeptUnit) (z : KeptUnit). l ++ (z ∷ [])) (stored_some n (omega arith)) (record_stored w n k many room)
 
   pub stored_own : (t : ℕ) → k.table ≡ t → of_table stored (n + 1) t ≡ of_table w n t ++ (k ∷ [])
-  unfolding of_table in_table those
+  unfolding of_table in_table
   stored_own t e =
       ap (those (in_table t)) stored_all ∙ those_append (in_table t) (records_from w 0 n) (k ∷ [])
       ∙ ap (λ (l : List KeptUnit). those (in_table t) (records_from w 0 n) ++ l) (those_keeps (in_table t) k [] (eq-eqb k.table t e))
 
   pub stored_other : (t : ℕ) → (k.table ≡ t → ⊥) → of_table stored (n + 1) t ≡ of_table w n t
-  unfolding of_table in_table those
+  unfolding of_table in_table
   stored_other t e =
       ap (those (in_table t)) stored_all ∙ those_append (in_table t) (records_from w 0 n) (k ∷ [])
       ∙ ap (λ (l : List KeptUnit). those (in_table t) (records_from w 0 n) ++ l) (those_skips (in_table t) k [] (ne_eqb k.table t e)) ∙ append-nil (those (in_table t) (records_from w 0 n))
@@ -154,7 +148,7 @@ module _ (w : List ℕ) (n : ℕ) (k : KeptUnit) (many : length k.cells ≡ cell
   stored_table i t h = ap (those (in_table t)) (stored_some i h)
 
   pub stored_bytes : (b : List ℕ) (h : ℕ) → k.home ≡ h → bytes_from b stored h 0 (n + 1) ≡ bytes_from b w h 0 n ++ bytes_of b k
-  unfolding bytes_from in_home those joined
+  unfolding bytes_from in_home
   stored_bytes b h e =
       let ks = records_from w 0 n in
       ap (λ (l : List KeptUnit). joined (map (bytes_of b) (those (in_home h) l))) stored_all
@@ -163,7 +157,7 @@ module _ (w : List ℕ) (n : ℕ) (k : KeptUnit) (many : length k.cells ≡ cell
       ∙ ap (λ (l : List ℕ). joined (map (bytes_of b) (those (in_home h) ks)) ++ l) (append-nil (bytes_of b k))
 
   pub stored_elsewhere : (b : List ℕ) (h : ℕ) → (k.home ≡ h → ⊥) → bytes_from b stored h 0 (n + 1) ≡ bytes_from b w h 0 n
-  unfolding bytes_from in_home those
+  unfolding bytes_from in_home
   stored_elsewhere b h e =
       let ks = records_from w 0 n in
       ap (λ (l : List KeptUnit). joined (map (bytes_of b) (those (in_home h) l))) stored_all
@@ -186,7 +180,7 @@ module _ (w : List ℕ) (n : ℕ) (k : KeptUnit) (many : length k.cells ≡ cell
 -- ---- identities of a table
 module _ (w : List ℕ) where
   pub identities_snoc : (n t : ℕ) → (record_at w n).table ≡ t → identities_in w (n + 1) t ≡ identities_in w n t ++ ((record_at w n).identity ∷ [])
-  unfolding identities_in of_table in_table those
+  unfolding identities_in of_table in_table
   identities_snoc n t e =
       ap (λ (l : List KeptUnit). map (λ (k : KeptUnit). k.identity) (those (in_table t) l)) (records_more w n)
       ∙ ap (map (λ (k : KeptUnit). k.identity)) (those_append (in_table t) (records_from w 0 n) (record_at w n ∷ [])
@@ -194,7 +188,7 @@ module _ (w : List ℕ) where
       ∙ map-append (λ (k : KeptUnit). k.identity) (those (in_table t) (records_from w 0 n)) (record_at w n ∷ [])
 
   pub identities_other : (n t : ℕ) → ((record_at w n).table ≡ t → ⊥) → identities_in w (n + 1) t ≡ identities_in w n t
-  unfolding identities_in of_table in_table those
+  unfolding identities_in of_table in_table
   identities_other n t e =
       ap (λ (l : List KeptUnit). map (λ (k : KeptUnit). k.identity) (those (in_table t) l)) (records_more w n)
       ∙ ap (map (λ (k : KeptUnit). k.identity)) (those_append (in_table t) (records_from w 0 n) (record_at w n ∷ [])

@@ -1,9 +1,5 @@
 -- A region of work is lent: what is written there leaves all else.
-use mathlib.Core.Path.{◌≡◌, refl, sym, ap, ap₂, ◌∙◌}
-use mathlib.Core.List.{List}
-use Prim.Native.Nat.{ℕ, ◌+◌, ◌*◌, ◌-◌, ◌≤◌}
-use native.Mathlib.Omega.{arith}
-use lib.ListN.{length, take, drop}
+use Rattle.std.proofs.Common.{◌≡◌, refl, sym, ap, ap₂, ◌∙◌, List, ℕ, ◌+◌, ◌*◌, ◌-◌, ◌≤◌, arith, length, take, drop}
 use borrow.Rule.Slice.PartMut.{put_mid}
 use Rattle.octets.specs.Octets.{part, placed}
 use Rattle.octets.proofs.Parts.{part_cut, length_part}

@@ -1,16 +1,6 @@
 -- A store in one region leaves the others, and is a store in that region's own words.
-use mathlib.Core.Path.{◌≡◌, sym, ap, ◌∙◌}
-use mathlib.Core.Bool.{true, false}
-use mathlib.Core.Logic.{◌⊎◌, inl, inr, ⊎_elim}
-use mathlib.Core.List.{List}
-use Prim.Native.Nat.{ℕ, ◌+◌, ◌*◌, ◌-◌, ◌<◌, ◌≤◌}
-use native.Mathlib.Nat.{add-mul, mul-le-mul_right}
-use native.Mathlib.Omega.{arith}
+use Rattle.std.proofs.Common.{◌≡◌, sym, ap, ◌∙◌, true, false, ◌⊎◌, inl, inr, ⊎_elim, List, ℕ, ◌+◌, ◌*◌, ◌-◌, ◌<◌, ◌≤◌, add-mul, mul-le-mul_right, arith, eqb, length, take, get_or, ext_get_or, eq-eqb, ne_eqb}
 use native.Mathlib.Decide.{dec_lt}
-use lib.Dec.{eqb}
-use lib.ListN.{length, take, get_or}
-use lib.Seq.{ext_get_or}
-use borrow.Author.Tests.{eq-eqb, ne_eqb}
 use Rattle.octets.specs.Octets.{part, placed}
 use Rattle.octets.proofs.Checks.{known}
 use Rattle.octets.proofs.Parts.{length_part, get_d_part}

@@ -1,6 +1,6 @@
 -- Each region of the code is that of the definitions, by its name: where it starts, and how many words it has. Clauses name a region by its definition, and
 -- these laws tie the constant to it; those of the slots, that of each table, are tied by what `slots` ensures.
-use mathlib.Core.Path.{◌≡◌, refl}
+use Rattle.std.proofs.Common.{◌≡◌, refl}
 use Rattle.kept.specs.Regions.{records_region, strings_region, codes_region, store_region, rows_region}
 use Rattle.kept.specs.declared.regions.TheConstants.{RECORDS, STRINGS, CODES, STORE, ROWS_BY_PLACE}
 

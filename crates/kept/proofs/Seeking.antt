@@ -1,10 +1,6 @@
 -- One walk over the slots: it ends at a record of the identity or at the first free slot.
-use mathlib.Core.Path.{◌≡◌, refl, sym, ap, ap₂, ◌∙◌}
-use mathlib.Core.List.{List, map}
-use Prim.Native.Nat.{ℕ, suc, ◌+◌, ◌-◌, ◌%◌, ◌≤◌, ◌<◌}
-use native.Mathlib.Nat.{sub-zero, mod-lt}
-use native.Mathlib.Omega.{arith}
-use lib.ListN.{length, get_or}
+use Rattle.std.proofs.Common.{◌≡◌, refl, sym, ap, ap₂, ◌∙◌, List, map, ℕ, suc, ◌+◌, ◌-◌, ◌%◌, ◌≤◌, ◌<◌, mod-lt, arith, length, get_or}
+use native.Mathlib.Nat.{sub-zero}
 use Rattle.index.specs.Probing.{Probe, found, absent, first_slot, stride, look, search, free_from}
 use Rattle.index.specs.Held.{PowerOfTwo}
 use Rattle.index.proofs.Masks.{first_slot_lt, stride_le}

@@ -1,6 +1,5 @@
 -- How many slots of identities seen there are: a power of two, no more than words, and more than units.
-use Prim.Native.Nat.{ℕ, ◌+◌, ◌*◌, ◌/◌, ◌<◌, ◌≤◌}
-use native.Mathlib.Omega.{arith}
+use Rattle.std.proofs.Common.{ℕ, ◌+◌, ◌*◌, ◌/◌, ◌<◌, ◌≤◌, arith}
 use Rattle.index.specs.Held.{PowerOfTwo}
 use Rattle.index.proofs.Masks.{least_power_law}
 use Rattle.index.proofs.Slots.{least_power_ge, least_power_le}

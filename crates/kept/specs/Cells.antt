@@ -1,6 +1,5 @@
 -- The cells of a unit by what it contributes, and the bases with one object more.
-use Rattle.std.specs.Prelude.{◌≡◌, true, false, List, ℕ, ◌+◌, ◌^◌, ◌<◌, Some, None, ◌==◌, slice_index, if◌then◌else◌}
-use Rattle.std.proofs.Math.Option.{Option, some, none}
+use Rattle.std.specs.Prelude.{◌≡◌, true, false, List, ℕ, ◌+◌, ◌^◌, ◌<◌, Some, None, ◌==◌, slice_index, if◌then◌else◌, Option}
 use Rattle.numbers.specs.Sections.{section_codes}
 use Rattle.index.specs.Index.{Contribution}
 use Rattle.index.specs.Rows.{BySection}
@@ -11,8 +10,8 @@ use Rattle.index.specs.declared.judging.Contributions.{Contributions}
 unfoldable pub cells_by : BySection (Option Contribution) → BySection ℕ → ℕ → ℕ → ℕ → BySection (Option Contribution)
 cells_by f bases home at size c =
     if c == home
-    then some (record { offset = at; size = size })
-    else elim (f c) [ some k ↦ some (record { offset = bases c + k.offset; size = k.size }) | none ↦ none ]
+    then Some (record { offset = at; size = size })
+    else elim (f c) [ Some k ↦ Some (record { offset = bases c + k.offset; size = k.size }) | None ↦ None ]
 
 -- one cell, where its section of the object begins at a base
 unfoldable pub moved_by : ℕ → Cell → Cell

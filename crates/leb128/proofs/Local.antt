@@ -1,30 +1,26 @@
 -- Reading is local: what is read does not change with what stands behind the bytes that it takes.
-use mathlib.Core.Path.{◌≡◌, sym, ap, ◌∙◌}
-use mathlib.Core.List.{List, [], ◌∷◌, ◌++◌}
-use Prim.Native.Nat.{ℕ, zero, suc, ◌+◌, ◌≤◌}
-use native.Mathlib.Omega.{arith}
+use Rattle.std.proofs.Common.{◌≡◌, sym, ap, ◌∙◌, List, [], ◌∷◌, ◌++◌, ℕ, zero, suc, ◌+◌, ◌≤◌, arith, length, take, drop, length-drop, take-append-drop, length-take-le}
 use native.Mathlib.Decide.{dec_le}
-use lib.ListN.{length, take, drop, length-drop, take-append-drop}
-use lib.Seq.{drop-append-le, length-take-le}
-use Rattle.octets.specs.Checked.{Check, pass}
+use lib.Seq.{drop-append-le}
+use Rattle.std.specs.Prelude.{Result, Ok}
 use Rattle.octets.proofs.Checks.{pass_inj, pass_refuse, bind_pass, require_pass, then_pass}
 use Rattle.leb128.specs.Leb128.{groups, short, unsigned}
 use Rattle.leb128.proofs.Taken.{groups_last, groups_more, shifted, groups_taken}
 
 -- what passes where x stands behind p passes where y does, if p has all the bytes that it takes
-pub record Local {A : Type 0} (size : A → ℕ) (f : List ℕ → Check A) : Type 0 where
-  pub is : (p x y : List ℕ) (r : A) → f (p ++ x) ≡ pass r → size r ≤ length p → f (p ++ y) ≡ pass r
+pub record Local {A : Type 0} (size : A → ℕ) (f : List ℕ → Result A ℕ) : Type 0 where
+  pub is : (p x y : List ℕ) (r : A) → f (p ++ x) ≡ Ok r → size r ≤ length p → f (p ++ y) ≡ Ok r
 
 -- ---- what that says
-module _ {A : Type 0} (size : A → ℕ) (f : List ℕ → Check A) (l : Local size f) where
+module _ {A : Type 0} (size : A → ℕ) (f : List ℕ → Result A ℕ) (l : Local size f) where
   -- of a reader that starts later
-  pub local_behind : (n : ℕ) (p x y : List ℕ) (r : A) → f (drop n (p ++ x)) ≡ pass r → n + size r ≤ length p → f (drop n (p ++ y)) ≡ pass r
+  pub local_behind : (n : ℕ) (p x y : List ℕ) (r : A) → f (drop n (p ++ x)) ≡ Ok r → n + size r ≤ length p → f (drop n (p ++ y)) ≡ Ok r
   local_behind n p x y r e h =
       ap f (drop-append-le n p y (omega arith))
       ∙ l.is (drop n p) x y r (ap f (sym (drop-append-le n p x (omega arith))) ∙ e) (omega (arith, length-drop n p))
 
   -- of the bytes that are taken alone
-  pub local_taken : (s y : List ℕ) (r : A) → f s ≡ pass r → size r ≤ length s → f (take (size r) s ++ y) ≡ pass r
+  pub local_taken : (s y : List ℕ) (r : A) → f s ≡ Ok r → size r ≤ length s → f (take (size r) s ++ y) ≡ Ok r
   local_taken s y r e h =
       l.is (take (size r) s) (drop (size r) s) y r (ap f (take-append-drop (size r) s) ∙ e) (omega (arith, length-take-le (size r) s h))
 
@@ -32,7 +28,7 @@ module _ {A : Type 0} (size : A → ℕ) (f : List ℕ → Check A) (l : Local s
 abbrev pub taken : {A : Type 0} → A × ℕ → ℕ
 taken r = r.1
 
-groups_front : (k : ℕ) (p x y : List ℕ) (r : ℕ × ℕ) → groups k (p ++ x) ≡ pass r → r.1 ≤ length p → groups k (p ++ y) ≡ pass r
+groups_front : (k : ℕ) (p x y : List ℕ) (r : ℕ × ℕ) → groups k (p ++ x) ≡ Ok r → r.1 ≤ length p → groups k (p ++ y) ≡ Ok r
 unfolding groups
 groups_front zero p x y r e h = absurd (pass_refuse r 12 (sym e))
 groups_front (suc k) [] x y r e h = absurd (omega (arith, (groups_taken (suc k) x r e).some))

@@ -1,15 +1,9 @@
 -- A walk over groups of seven bits, and what a tenth byte adds to nine of them.
-use mathlib.Core.Path.{◌≡◌, refl, ap, ap₂, ◌∙◌}
-use mathlib.Core.List.{List, [], ◌∷◌}
-use Prim.Native.Nat.{ℕ, zero, suc, ◌+◌, ◌*◌, ◌-◌, ◌^◌, ◌≤◌, ◌<◌}
-use native.Mathlib.Nat.{pow-succ', mul-add, mul_assoc, mul-le-mul_left, pow-le-pow_right, zero-lt-suc, sub-zero}
-use native.Mathlib.Omega.{arith}
-use native.Mathlib.Numerals.{add-one}
+use Rattle.std.proofs.Common.{◌≡◌, refl, ap, ap₂, ◌∙◌, List, [], ◌∷◌, ℕ, zero, suc, ◌+◌, ◌*◌, ◌-◌, ◌^◌, ◌≤◌, ◌<◌, mul-add, mul_assoc, mul-le-mul_left, zero-lt-suc, arith, add-one, length, get_or, drop, drop_of_length-le, drop-cons, lt-ltb, le-ltb}
+use native.Mathlib.Nat.{pow-succ', pow-le-pow_right, sub-zero}
 use native.Mathlib.Decide.{dec_le}
-use lib.ListN.{length, get_or, drop, drop_of_length-le}
-use lib.Seq.{drop-cons}
-use borrow.Author.Tests.{lt-ltb, le-ltb}
-use Rattle.octets.specs.Checked.{Check, pass, refuse, ◌>>=◌}
+use Rattle.std.specs.Prelude.{Result, Ok, Err}
+use Rattle.octets.specs.Checked.{◌>>=◌}
 use Rattle.leb128.proofs.Taken.{groups_last, groups_more, shifted}
 use Rattle.leb128.specs.Leb128.{groups}
 use Rattle.leb128.specs.Answers.{groups_read, before}
@@ -94,22 +88,22 @@ walked_more k s i v f b w h g e l m = record {
 }
 
 -- ---- from so many bytes to more of them
-unfoldable pub followed : ℕ → Groups → Check (ℕ × ℕ) → Check (ℕ × ℕ)
-followed k (Ended v n) r = pass (v, n)
-followed k (Open v) r = r >>= λ p. pass (v + 128 ^ k * p.0, k + p.1)
-followed k Cut r = refuse 12
+unfoldable pub followed : ℕ → Groups → Result (ℕ × ℕ) ℕ → Result (ℕ × ℕ) ℕ
+followed k (Ended v n) r = Ok (v, n)
+followed k (Open v) r = r >>= λ p. Ok (v + 128 ^ k * p.0, k + p.1)
+followed k Cut r = Err 12
 
-followed_none : (r : Check (ℕ × ℕ)) → r ≡ followed 0 (Open 0) r
+followed_none : (r : Result (ℕ × ℕ) ℕ) → r ≡ followed 0 (Open 0) r
 unfolding followed ◌>>=◌
-followed_none (pass p) = ap pass (ap₂ (λ (a b : ℕ). (a, b)) (omega arith) (omega arith))
-followed_none (refuse n) = refl
+followed_none (Ok p) = ap Ok (ap₂ (λ (a b : ℕ). (a, b)) (omega arith) (omega arith))
+followed_none (Err n) = refl
 
-followed_before : (k b : ℕ) (g : Groups) (r : Check (ℕ × ℕ)) → (followed k g r >>= shifted b) ≡ followed (suc k) (before b g) r
+followed_before : (k b : ℕ) (g : Groups) (r : Result (ℕ × ℕ) ℕ) → (followed k g r >>= shifted b) ≡ followed (suc k) (before b g) r
 unfolding followed before ◌>>=◌
 followed_before k b (Ended v n) r = refl
-followed_before k b (Open v) (pass p) =
-    ap pass (ap₂ (λ (x y : ℕ). (x, y)) (omega (arith, pow-succ' 128 k, mul_assoc 128 (128 ^ k) p.0, ap (λ (x : ℕ). x * p.0) (pow-succ' 128 k))) (omega arith))
-followed_before k b (Open v) (refuse n) = refl
+followed_before k b (Open v) (Ok p) =
+    ap Ok (ap₂ (λ (x y : ℕ). (x, y)) (omega (arith, pow-succ' 128 k, mul_assoc 128 (128 ^ k) p.0, ap (λ (x : ℕ). x * p.0) (pow-succ' 128 k))) (omega arith))
+followed_before k b (Open v) (Err n) = refl
 followed_before k b Cut r = refl
 
 pub groups_by : (k n j : ℕ) (s : List ℕ) → n ≡ k + j → groups n s ≡ followed k (groups_read k s) (groups j (drop k s))
@@ -120,7 +114,7 @@ groups_by (suc k) (suc n) j [] e = refl
 groups_by (suc k) (suc n) j (b ∷ s) e =
     elim (dec_le 128 b) [
       | yes h ↦
-          groups_more n b s h ∙ ap (λ (m : Check (ℕ × ℕ)). m >>= shifted b) (groups_by k n j s (omega arith))
+          groups_more n b s h ∙ ap (λ (m : Result (ℕ × ℕ) ℕ). m >>= shifted b) (groups_by k n j s (omega arith))
           ∙ followed_before k b (groups_read k s) (groups j (drop k s)) ∙ rw (groups_read, le-ltb b 128 h)
       | no h ↦ groups_last n b s (omega arith) ∙ rw (groups_read, lt-ltb b 128 (omega arith))
     ]

@@ -1,25 +1,21 @@
 -- LEB128 numbers: how many bytes one takes, how large it is, and that every refusal is 12.
-use mathlib.Core.Path.{◌≡◌, sym, ap, ◌∙◌}
-use mathlib.Core.List.{List, [], ◌∷◌}
-use Prim.Native.Nat.{ℕ, zero, suc, ◌+◌, ◌*◌, ◌-◌, ◌^◌, ◌≤◌, ◌<◌}
-use native.Mathlib.Nat.{pow-succ', one-le-pow, zero-lt-suc}
-use native.Mathlib.Omega.{arith}
+use Rattle.std.proofs.Common.{◌≡◌, sym, ap, ◌∙◌, List, [], ◌∷◌, ℕ, zero, suc, ◌+◌, ◌*◌, ◌-◌, ◌^◌, ◌≤◌, ◌<◌, zero-lt-suc, arith, length, lt-ltb, le-ltb}
+use native.Mathlib.Nat.{pow-succ', one-le-pow}
 use native.Mathlib.Decide.{dec_le}
-use lib.ListN.{length}
-use borrow.Author.Tests.{lt-ltb, le-ltb}
-use Rattle.octets.specs.Checked.{Check, pass, ◌>>=◌}
+use Rattle.std.specs.Prelude.{Result, Ok}
+use Rattle.octets.specs.Checked.{◌>>=◌}
 use Rattle.octets.proofs.Checks.{pass_inj, pass_refuse, bind_pass, require_pass}
 use Rattle.octets.proofs.Refusals.{Only, only_pass, only_refuse, only_require, only_bind}
 use Rattle.octets.proofs.Numbers.{Bytes, bytes_tail}
 use Rattle.leb128.specs.Leb128.{groups, short, unsigned, signed_size}
 
 -- a byte and what follows it
-pub groups_last : (k b : ℕ) (s : List ℕ) → b < 128 → groups (suc k) (b ∷ s) ≡ pass (b, 1)
+pub groups_last : (k b : ℕ) (s : List ℕ) → b < 128 → groups (suc k) (b ∷ s) ≡ Ok (b, 1)
 unfolding groups
 groups_last k b s h = rw (groups, lt-ltb b 128 h)
 
-abbrev pub shifted : ℕ → ℕ × ℕ → Check (ℕ × ℕ)
-shifted b r = pass (b - 128 + 128 * r.0, suc r.1)
+abbrev pub shifted : ℕ → ℕ × ℕ → Result (ℕ × ℕ) ℕ
+shifted b r = Ok (b - 128 + 128 * r.0, suc r.1)
 
 pub groups_more : (k b : ℕ) (s : List ℕ) → 128 ≤ b → groups (suc k) (b ∷ s) ≡ (groups k s >>= shifted b)
 unfolding groups
@@ -54,7 +50,7 @@ pub record Taken (k : ℕ) (s : List ℕ) (n : ℕ) : Type 0 where
   pub most : n ≤ k
   pub within : n ≤ length s
 
-pub groups_taken : (k : ℕ) (s : List ℕ) (r : ℕ × ℕ) → groups k s ≡ pass r → Taken k s r.1
+pub groups_taken : (k : ℕ) (s : List ℕ) (r : ℕ × ℕ) → groups k s ≡ Ok r → Taken k s r.1
 unfolding groups
 groups_taken zero s r e = absurd (pass_refuse r 12 (sym e))
 groups_taken (suc k) [] r e = absurd (pass_refuse r 12 (sym e))
@@ -70,21 +66,21 @@ groups_taken (suc k) (b ∷ s) r e =
     more : {n : ℕ} → Taken k s n → Taken (suc k) (b ∷ s) (suc n)
     more t = record { some = omega arith; most = omega arith; within = omega arith }
 
-pub short_taken : (s : List ℕ) (r : ℕ × ℕ) → short s ≡ pass r → Taken 3 s r.1
+pub short_taken : (s : List ℕ) (r : ℕ × ℕ) → short s ≡ Ok r → Taken 3 s r.1
 unfolding short
 short_taken s r e =
     let p = bind_pass (groups 3 s) _ r e in
     let q = require_pass _ _ _ _ p.2 in
     rw (← pass_inj q.1) (groups_taken 3 s p.0 p.1)
 
-pub unsigned_taken : (s : List ℕ) (r : ℕ × ℕ) → unsigned s ≡ pass r → Taken 10 s r.1
+pub unsigned_taken : (s : List ℕ) (r : ℕ × ℕ) → unsigned s ≡ Ok r → Taken 10 s r.1
 unfolding unsigned
 unsigned_taken s r e =
     let p = bind_pass (groups 10 s) _ r e in
     let q = require_pass _ _ _ _ p.2 in
     rw (← pass_inj q.1) (groups_taken 10 s p.0 p.1)
 
-pub signed_size_taken : (s : List ℕ) (n : ℕ) → signed_size s ≡ pass n → Taken 10 s n
+pub signed_size_taken : (s : List ℕ) (n : ℕ) → signed_size s ≡ Ok n → Taken 10 s n
 unfolding signed_size
 signed_size_taken s n e =
     let p = bind_pass (groups 10 s) _ n e in
@@ -95,7 +91,7 @@ signed_size_taken s n e =
 larger : (b v k : ℕ) → b < 256 → v < 128 ^ k → b - 128 + 128 * v < 128 ^ suc k
 larger b v k h g = omega (arith, pow-succ' 128 k)
 
-pub groups_lt : (k : ℕ) (s : List ℕ) (r : ℕ × ℕ) → Bytes s → groups k s ≡ pass r → r.0 < 128 ^ k
+pub groups_lt : (k : ℕ) (s : List ℕ) (r : ℕ × ℕ) → Bytes s → groups k s ≡ Ok r → r.0 < 128 ^ k
 unfolding groups
 groups_lt zero s r h e = absurd (pass_refuse r 12 (sym e))
 groups_lt (suc k) [] r h e = absurd (pass_refuse r 12 (sym e))

@@ -1,13 +1,7 @@
 -- What is asked, by what the code holds: version, table, index and place.
-use mathlib.Core.Path.{◌≡◌, refl, sym}
-use mathlib.Core.Bool.{Bool, true, false}
-use mathlib.Core.List.{List}
-use mathlib.Core.Option.{Option, some, none}
-use Prim.Native.Nat.{ℕ, ◌+◌, ◌≤◌, ◌<◌}
-use native.Mathlib.Omega.{arith}
-use lib.Dec.{eqb}
-use borrow.Author.Tests.{le-leb, lt-leb}
-use Rattle.octets.specs.Checked.{pass, refuse}
+use Rattle.std.proofs.Common.{◌≡◌, refl, sym, Bool, true, false, List, ℕ, ◌+◌, ◌≤◌, ◌<◌, arith, eqb, le-leb}
+use Rattle.std.specs.Prelude.{Option, if◌then◌else◌, Some, None, Ok, Err}
+use borrow.Author.Tests.{lt-leb}
 use Rattle.octets.proofs.Checks.{fails, passes}
 use Rattle.bundle.specs.Bundle.{Part as BundlePart, count, first_part}
 use Rattle.bundle.specs.Scan.{start_in, size_in, start_of, size_of}
@@ -15,13 +9,12 @@ use Rattle.bundle.proofs.Sections.{none_counted, counted_none}
 use Rattle.index.specs.Index.{Index, Contribution}
 use Rattle.lookup.specs.Lookup.{Package, has_version, version_good, index_for, place_in}
 use Rattle.lookup.specs.Answers.{indexed, head_in, index_has, version_by, table_index, index_code}
-use Rattle.std.specs.Prelude.{if◌then◌else◌}
 
 -- ---- 22
 pub has_indexed : (v : ℕ) (o : Option Index) → index_has v (indexed o) ≡ has_version v o
 unfolding indexed has_version
-has_indexed v (some i) = refl
-has_indexed v none = refl
+has_indexed v (Some i) = refl
+has_indexed v None = refl
 
 pub version_by_law : (k : Package) (v : ℕ) → version_by (head_in k) v ≡ version_good k v
 unfolding head_in version_good
@@ -46,26 +39,26 @@ table_by table k = go (eqb table 1)
 
 -- ---- 24, by what a scan says of a section
 module _ (ps : List BundlePart) (c : ℕ) (x : Contribution) where
-  pub place_none : count ps c ≡ 0 → refuse 24 ≡ place_in (first_part ps c) x
+  pub place_none : count ps c ≡ 0 → Err 24 ≡ place_in (first_part ps c) x
   unfolding place_in
   place_none e = go (first_part ps c) refl
     where
-      go : (o : Option BundlePart) → first_part ps c ≡ o → refuse 24 ≡ place_in o x
-      go none f = refl
-      go (some s) f = let h = none_counted c ps e in let y : ◌≡◌ {A = ℕ} 0 1 = cc in absurd (omega arith)
+      go : (o : Option BundlePart) → first_part ps c ≡ o → Err 24 ≡ place_in o x
+      go None f = refl
+      go (Some s) f = let h = none_counted c ps e in let y : ◌≡◌ {A = ℕ} 0 1 = cc in absurd (omega arith)
 
-  pub place_outside : size_of ps c < x.offset + x.size → refuse 24 ≡ place_in (first_part ps c) x
+  pub place_outside : size_of ps c < x.offset + x.size → Err 24 ≡ place_in (first_part ps c) x
   unfolding size_of size_in place_in
   place_outside h = go (first_part ps c) h
     where
-      go : (o : Option BundlePart) → size_in o < x.offset + x.size → refuse 24 ≡ place_in o x
-      go none g = refl
-      go (some s) g = sym (fails _ _ _ (lt-leb (x.offset + x.size) s.size g))
+      go : (o : Option BundlePart) → size_in o < x.offset + x.size → Err 24 ≡ place_in o x
+      go None g = refl
+      go (Some s) g = sym (fails _ _ _ (lt-leb (x.offset + x.size) s.size g))
 
-  pub place_inside : (count ps c ≡ 0 → ⊥) → x.offset + x.size ≤ size_of ps c → pass (record { start = start_of ps c + x.offset; size = x.size }) ≡ place_in (first_part ps c) x
+  pub place_inside : (count ps c ≡ 0 → ⊥) → x.offset + x.size ≤ size_of ps c → Ok (record { start = start_of ps c + x.offset; size = x.size }) ≡ place_in (first_part ps c) x
   unfolding start_of start_in size_of size_in place_in
   place_inside f h = go (first_part ps c) refl h
     where
-      go : (o : Option BundlePart) → first_part ps c ≡ o → x.offset + x.size ≤ size_in o → pass (record { start = start_in o + x.offset; size = x.size }) ≡ place_in o x
-      go none e g = absurd (f (counted_none c ps e))
-      go (some s) e g = sym (passes _ _ _ (le-leb (x.offset + x.size) s.size g))
+      go : (o : Option BundlePart) → first_part ps c ≡ o → x.offset + x.size ≤ size_in o → Ok (record { start = start_in o + x.offset; size = x.size }) ≡ place_in o x
+      go None e g = absurd (f (counted_none c ps e))
+      go (Some s) e g = sym (passes _ _ _ (le-leb (x.offset + x.size) s.size g))

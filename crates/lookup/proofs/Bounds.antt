@@ -1,12 +1,7 @@
 -- What holds of every answer: a part lies in the package, and no more slots are looked at than there are.
-use mathlib.Core.Path.{◌≡◌, refl, ap, ◌∙◌}
-use mathlib.Core.List.{List}
-use mathlib.Core.Logic.{◌⊎◌, inl, inr}
-use mathlib.Core.Option.{Option, some, none}
-use Prim.Native.Nat.{ℕ, ◌+◌, ◌≤◌}
-use native.Mathlib.Omega.{arith}
-use lib.ListN.{length, get_or}
-use Rattle.octets.specs.Checked.{Check, pass, refuse, ◌>>=◌}
+use Rattle.std.proofs.Common.{◌≡◌, refl, ap, ◌∙◌, List, ◌⊎◌, inl, inr, ℕ, ◌+◌, ◌≤◌, arith, length, get_or}
+use Rattle.std.specs.Prelude.{Option, Some, None, Result, Ok, Err}
+use Rattle.octets.specs.Checked.{◌>>=◌}
 use Rattle.octets.proofs.Checks.{bind_pass, require_pass, pass_inj}
 use Rattle.octets.proofs.Parts.{length_part_le}
 use Rattle.bundle.specs.Bundle.{first_part, body}
@@ -24,7 +19,7 @@ use Rattle.lookup.proofs.Texts.{start_in_law}
 use Rattle.lookup.proofs.Known.{within_package, index_known, answered_part, part_within}
 
 -- ---- looks
-module _ (p : List ℕ) (k : Package) (e : package_of p ≡ pass k) (table : ℕ) (i : Index) (f : index_for k table ≡ some i) (x : ℕ) where
+module _ (p : List ℕ) (k : Package) (e : package_of p ≡ Ok k) (table : ℕ) (i : Index) (f : index_for k table ≡ Some i) (x : ℕ) where
   well : Well i
   well = record { big = k.encoding.big; bytes = body p k.parts (index_code table); is = index_known p k e table i f }
 
@@ -35,22 +30,22 @@ module _ (p : List ℕ) (k : Package) (e : package_of p ≡ pass k) (table : ℕ
   looks_absent looks h = absent_looks i well x looks h
 
 -- ---- what is known of an answer that names a part: the package, the index, the slot where the search ended, and the place of the row
-pub record Named (p : List ℕ) (table x a n looks : ℕ) (answer : Package → Index → ℕ → Check Place) : Type 0 where
+pub record Named (p : List ℕ) (table x a n looks : ℕ) (answer : Package → Index → ℕ → Result Place ℕ) : Type 0 where
   pub held : Package
   pub index : Index
   pub slot : ℕ
-  pub opened : package_of p ≡ pass held
-  pub there : index_for held table ≡ some index
+  pub opened : package_of p ≡ Ok held
+  pub there : index_for held table ≡ Some index
   pub ends : probe index x ≡ at slot looks
-  pub place : answer held index (get_or index.rows slot 0) ≡ pass (record { start = a; size = n })
+  pub place : answer held index (get_or index.rows slot 0) ≡ Ok (record { start = a; size = n })
   pub few : looks ≤ length index.rows
 
-named : (p : List ℕ) (k : Package) (table x a n looks : ℕ) (answer : Package → Index → ℕ → Check Place) → package_of p ≡ pass k
-    → in_table (index_for k table) x (answer k) ≡ pass (part a n looks) → Named p table x a n looks answer
+named : (p : List ℕ) (k : Package) (table x a n looks : ℕ) (answer : Package → Index → ℕ → Result Place ℕ) → package_of p ≡ Ok k
+    → in_table (index_for k table) x (answer k) ≡ Ok (part a n looks) → Named p table x a n looks answer
 unfolding in_table at_row
 named p k table x a n looks answer e h = go (index_for k table) refl h
   where
-    row : (i : Index) → index_for k table ≡ some i → (r : Probe) → probe i x ≡ r → at_row i r (answer k i) ≡ pass (part a n looks) → Named p table x a n looks answer
+    row : (i : Index) → index_for k table ≡ Some i → (r : Probe) → probe i x ≡ r → at_row i r (answer k i) ≡ Ok (part a n looks) → Named p table x a n looks answer
     row i f (nowhere l) g q = absurd (let z : ◌≡◌ {A = ℕ} 0 1 = cc in omega arith)
     row i f (at slot l) g q =
         let (s, m, t) = bind_pass _ _ _ q in
@@ -65,13 +60,13 @@ named p k table x a n looks answer e h = go (index_for k table) refl h
           opened = e;
           there = f;
           ends = ends;
-          place = m ∙ ap pass (λ j. record { start = sa j; size = sn j });
+          place = m ∙ ap Ok (λ j. record { start = sa j; size = sn j });
           few = looks_found p k e table i f x slot looks ends;
         }
 
-    go : (o : Option Index) → index_for k table ≡ o → in_table o x (answer k) ≡ pass (part a n looks) → Named p table x a n looks answer
-    go none f q = absurd (let z : ◌≡◌ {A = ℕ} 0 1 = cc in omega arith)
-    go (some i) f q = row i f (probe i x) refl q
+    go : (o : Option Index) → index_for k table ≡ o → in_table o x (answer k) ≡ Ok (part a n looks) → Named p table x a n looks answer
+    go None f q = absurd (let z : ◌≡◌ {A = ℕ} 0 1 = cc in omega arith)
+    go (Some i) f q = row i f (probe i x) refl q
 
 module _ (p : List ℕ) (version table x a n looks : ℕ) where
   pub part_named : (code : ℕ) → looked_up p version table x code ≡ part a n looks → Named p table x a n looks (λ k i row. part_place k i row code)
@@ -106,7 +101,7 @@ module _ (p : List ℕ) (version table x a n looks : ℕ) where
       let (t, h, g2) = bind_pass _ _ _ g1 in
       inside m.held m.opened _ t h (pass_inj g2)
     where
-      inside : (k : Package) → package_of p ≡ pass k → (offset : ℕ) (t : List ℕ) → string_at 26 (body p k.parts 11) offset ≡ pass t
+      inside : (k : Package) → package_of p ≡ Ok k → (offset : ℕ) (t : List ℕ) → string_at 26 (body p k.parts 11) offset ≡ Ok t
           → ◌≡◌ {A = Place} (record { start = start_of (first_part k.parts 11) + offset; size = length t }) (record { start = a; size = n }) → a + n ≤ length p
       inside k o offset t h q =
           let is = string_at_is 26 (body p k.parts 11) offset t h in
@@ -135,29 +130,29 @@ module _ (p : List ℕ) (version table x : ℕ) where
 -- ---- what is known of an answer that is absent: the index is missing, after 0 looks, or its probing ended so
 pub record Missed (p : List ℕ) (table x looks : ℕ) : Type 0 where
   pub held : Package
-  pub opened : package_of p ≡ pass held
-  pub either : ((index_for held table ≡ none) × (looks ≡ 0)) ⊎ ((i : Index) × (index_for held table ≡ some i) × (probe i x ≡ nowhere looks) × (looks ≤ length i.rows))
+  pub opened : package_of p ≡ Ok held
+  pub either : ((index_for held table ≡ None) × (looks ≡ 0)) ⊎ ((i : Index) × (index_for held table ≡ Some i) × (probe i x ≡ nowhere looks) × (looks ≤ length i.rows))
 
-answered_absent : (m : Check Found) (looks : ℕ) → answered m ≡ absent looks → m ≡ pass (absent looks)
+answered_absent : (m : Result Found ℕ) (looks : ℕ) → answered m ≡ absent looks → m ≡ Ok (absent looks)
 unfolding answered
-answered_absent (pass f) looks e = ap pass e
-answered_absent (refuse j) looks e = absurd (let z : ◌≡◌ {A = ℕ} 0 1 = cc in omega arith)
+answered_absent (Ok f) looks e = ap Ok e
+answered_absent (Err j) looks e = absurd (let z : ◌≡◌ {A = ℕ} 0 1 = cc in omega arith)
 
-missed : (p : List ℕ) (k : Package) (table x looks : ℕ) (answer : Index → ℕ → Check Place) → package_of p ≡ pass k
-    → in_table (index_for k table) x answer ≡ pass (absent looks) → Missed p table x looks
+missed : (p : List ℕ) (k : Package) (table x looks : ℕ) (answer : Index → ℕ → Result Place ℕ) → package_of p ≡ Ok k
+    → in_table (index_for k table) x answer ≡ Ok (absent looks) → Missed p table x looks
 unfolding in_table at_row
 missed p k table x looks answer e h = go (index_for k table) refl h
   where
-    row : (i : Index) → index_for k table ≡ some i → (r : Probe) → probe i x ≡ r → at_row i r (answer i) ≡ pass (absent looks) → Missed p table x looks
+    row : (i : Index) → index_for k table ≡ Some i → (r : Probe) → probe i x ≡ r → at_row i r (answer i) ≡ Ok (absent looks) → Missed p table x looks
     row i f (nowhere l) g q =
         let sl : l ≡ looks = cc in
         let ends : probe i x ≡ nowhere looks = g ∙ ap nowhere sl in
         record { held = k; opened = e; either = inr (i, f, ends, looks_absent p k e table i f x looks ends) }
     row i f (at slot l) g q = let (s, m, t) = bind_pass _ _ _ q in absurd (let z : ◌≡◌ {A = ℕ} 0 1 = cc in omega arith)
 
-    go : (o : Option Index) → index_for k table ≡ o → in_table o x answer ≡ pass (absent looks) → Missed p table x looks
-    go none f q = record { held = k; opened = e; either = inl (f, cc) }
-    go (some i) f q = row i f (probe i x) refl q
+    go : (o : Option Index) → index_for k table ≡ o → in_table o x answer ≡ Ok (absent looks) → Missed p table x looks
+    go None f q = record { held = k; opened = e; either = inl (f, cc) }
+    go (Some i) f q = row i f (probe i x) refl q
 
 module _ (p : List ℕ) (version table x looks : ℕ) where
   pub part_missed : (code : ℕ) → looked_up p version table x code ≡ absent looks → Missed p table x looks

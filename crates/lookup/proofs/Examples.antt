@@ -1,8 +1,5 @@
 -- Packages looked up in, as the checker computes it: what is found, what is absent, and one question for each refusal.
-use mathlib.Core.Path.{◌≡◌, refl}
-use mathlib.Core.Bool.{false}
-use mathlib.Core.List.{List, [], ◌∷◌}
-use Prim.Native.Nat.{ℕ}
+use Rattle.std.proofs.Common.{◌≡◌, refl, false, List, [], ◌∷◌, ℕ}
 use Rattle.octets.specs.Checked
 use Rattle.octets.specs.Lists
 use Rattle.octets.specs.Octets
@@ -59,5 +56,5 @@ Examples =
     × (string_found (made 20 16) 5 1 1 1 ≡ refused 26)
 
 pub examples : Examples
-unfolding Checked.◌>>=◌ Checked.require Checked.renumbered Lists.joined Lists.all Lists.any Lists.has Lists.distinct Lists.zero_together Lists.those Octets.part Octets.little Octets.big_from Octets.number Octets.number_at Octets.numbers_in Octets.little_of Octets.big_of Octets.bytes_of Octets.numbers_of Octets.zeros Bundle.filled_up Bundle.object_step Bundle.section_step Bundle.end_step Bundle.step_of Bundle.step_at Bundle.followed Bundle.items_from Bundle.items Bundle.leading Bundle.objects_of Bundle.object_first Bundle.bundle_of Bundle.length_good Bundle.parts_of Bundle.count Bundle.first_part Bundle.body Encoding.encoding_of Encoding.encoding_good Strings.up_to_zero Strings.string_at Columns.columns_four Columns.columns_five Columns.columns_of Columns.column_in Index.version_of Index.columns_most Index.code_good Index.power_from Index.least_power Index.slots_good Index.layout Index.index_of Index.place_of Index.cell_at Index.cell_of Probing.first_slot Probing.stride Probing.look Probing.search Probing.probe Lookup.codes Lookup.package_index Lookup.object_judged Lookup.objects_judged Lookup.package_of Lookup.has_version Lookup.version_good Lookup.table_good Lookup.index_for Lookup.place_in Lookup.cell_place Lookup.part_place Lookup.at_row Lookup.in_table Lookup.answered Lookup.part_judged Lookup.looked_up Lookup.entries_start Lookup.start_of Lookup.string_place Lookup.string_judged Lookup.string_found
+unfolding Checked.◌>>=◌ Checked.require Checked.renumbered Lists.has Lists.distinct Lists.zero_together Octets.part Octets.little Octets.big_from Octets.number Octets.number_at Octets.numbers_in Octets.little_of Octets.big_of Octets.bytes_of Octets.numbers_of Octets.zeros Bundle.filled_up Bundle.object_step Bundle.section_step Bundle.end_step Bundle.step_of Bundle.step_at Bundle.followed Bundle.items_from Bundle.items Bundle.leading Bundle.objects_of Bundle.object_first Bundle.bundle_of Bundle.length_good Bundle.parts_of Bundle.count Bundle.first_part Bundle.body Encoding.encoding_of Encoding.encoding_good Strings.up_to_zero Strings.string_at Columns.columns_four Columns.columns_five Columns.columns_of Columns.column_in Index.version_of Index.columns_most Index.code_good Index.power_from Index.least_power Index.slots_good Index.layout Index.index_of Index.place_of Index.cell_at Index.cell_of Probing.first_slot Probing.stride Probing.look Probing.search Probing.probe Lookup.codes Lookup.package_index Lookup.object_judged Lookup.objects_judged Lookup.package_of Lookup.has_version Lookup.version_good Lookup.table_good Lookup.index_for Lookup.place_in Lookup.cell_place Lookup.part_place Lookup.at_row Lookup.in_table Lookup.answered Lookup.part_judged Lookup.looked_up Lookup.entries_start Lookup.start_of Lookup.string_place Lookup.string_judged Lookup.string_found
 examples = (refl, refl, refl, refl, refl, refl, refl, refl, refl, refl, refl, refl, refl, refl, refl, refl, refl, refl, refl, refl, refl)

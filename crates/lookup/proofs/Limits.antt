@@ -1,9 +1,7 @@
 -- A package's length at its limit, which is too long to be computed: 21.
-use mathlib.Core.Path.{◌≡◌, ap}
-use mathlib.Core.List.{List}
-use Prim.Native.Nat.{ℕ}
-use lib.ListN.{length}
-use Rattle.octets.specs.Checked.{refuse, ◌>>=◌, renumbered}
+use Rattle.std.proofs.Common.{◌≡◌, ap, List, ℕ, length}
+use Rattle.std.specs.Prelude.{Err}
+use Rattle.octets.specs.Checked.{◌>>=◌, renumbered}
 use Rattle.octets.proofs.Checks.{passes, fails, then_refuse}
 use Rattle.bundle.specs.Bundle.{bundle_of, length_good}
 use Rattle.lookup.specs.Lookup.{refused, objects_judged, package_of, answered, part_judged, looked_up}
@@ -14,7 +12,7 @@ module _ (p : List ℕ) where
   unfolding package_of length_good
   longest_package e = passes (length_good 117_440_512 p) 21 _ (rw (length_good, e))
 
-  too_long : length p ≡ 117_440_516 → package_of p ≡ refuse 21
+  too_long : length p ≡ 117_440_516 → package_of p ≡ Err 21
   unfolding package_of length_good
   too_long e = fails (length_good 117_440_512 p) 21 _ (rw (length_good, e))
 

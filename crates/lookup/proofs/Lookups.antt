@@ -1,12 +1,5 @@
 -- Both lookups, from what the code holds to what the definitions answer: 21 to 23, and the search.
-use mathlib.Core.Path.{◌≡◌, refl, ap, sym, ◌∙◌}
-use mathlib.Core.Bool.{Bool, true, false, ◌||◌}
-use mathlib.Core.List.{List}
-use Prim.Native.Nat.{ℕ, ◌+◌, ◌≤◌}
-use native.Mathlib.Omega.{arith}
-use lib.Dec.{eqb}
-use lib.ListN.{length}
-use borrow.Author.Tests.{eqb-true}
+use Rattle.std.proofs.Common.{◌≡◌, refl, ap, sym, ◌∙◌, Bool, true, false, ◌||◌, List, ℕ, ◌+◌, ◌≤◌, arith, eqb, length, eqb-true}
 use Rattle.std.specs.Prelude.{Result, Ok, Err, Some, None, if◌then◌else◌}
 use Rattle.numbers.specs.Refused.{told, number_of}
 use Rattle.numbers.specs.Tabled.{table_named, table_number}
@@ -14,7 +7,7 @@ use Rattle.numbers.specs.declared.refusals.Refusal.{Refusal}
 use Rattle.numbers.specs.declared.refusals.Refusal.TheVariants.{BadQuestion}
 use Rattle.numbers.specs.declared.tables.Table.{Table}
 use Rattle.numbers.specs.declared.tables.Table.TheVariants.{Compilation, «Type»}
-use Rattle.octets.specs.Checked.{Check, pass, refuse, ◌>>=◌, mapped}
+use Rattle.octets.specs.Checked.{◌>>=◌, mapped}
 use Rattle.bundle.specs.Encoding.{encoding_good}
 use Rattle.lookup.specs.Lookup.{Found, refused, absent, part, Package, package_of, version_good, table_good, Place as Held, string_place, answered, looked_up, string_found}
 use Rattle.lookup.specs.Answers.{head_in, opened, package_in, Opened, version_by, part_in, placed, found_in, found_as}
@@ -55,8 +48,8 @@ table_is n table e = go (eqb n 1) (eqb n 2) refl refl e
     go false false f g h = absurd (let z : ◌≡◌ {A = ℕ} 0 1 = cc in omega arith)
 
 -- ---- 21
-module _ (p : List ℕ) (n : ℕ) (e : refuse n ≡ opened (package_of p)) where
-  pub closed : package_of p ≡ refuse n
+module _ (p : List ℕ) (n : ℕ) (e : Err n ≡ opened (package_of p)) where
+  pub closed : package_of p ≡ Err n
   unfolding opened
   closed = of_refuse head_in (package_of p) n e
 
@@ -104,7 +97,7 @@ module _ (p : List ℕ) (version table x entry : ℕ) where
       follow : Found → Found
       follow = A.followed p (package_in p) version entry
 
-      table_or : (k : Package) → package_of p ≡ pass k → version_good k version ≡ true → (t : Bool) → table_good table ≡ t → string_found p version table x entry ≡ follow (looked_up p version table x 6)
+      table_or : (k : Package) → package_of p ≡ Ok k → version_good k version ≡ true → (t : Bool) → table_good table ≡ t → string_found p version table x entry ≡ follow (looked_up p version table x 6)
       table_or k g f false t = A.string_asked p version table x k g f entry t ∙ sym (ap follow (A.part_asked p version table x k g f 6 (asked_table table 6 t)))
       table_or k g f true t =
           let is : k ≡ package_in p = rw (package_in, g) in
@@ -113,13 +106,13 @@ module _ (p : List ℕ) (version table x entry : ℕ) where
           ∙ ap (λ (z : Package). A.followed p z version entry (answered (part_in k table x 6))) is
           ∙ sym (ap follow (A.part_searched p version table x k g f 6 (asked_good table 6 t (omega arith) (omega arith))))
 
-      version_or : (k : Package) → package_of p ≡ pass k → (v : Bool) → version_good k version ≡ v → string_found p version table x entry ≡ follow (looked_up p version table x 6)
+      version_or : (k : Package) → package_of p ≡ Ok k → (v : Bool) → version_good k version ≡ v → string_found p version table x entry ≡ follow (looked_up p version table x 6)
       version_or k g false f = A.string_version p version table x k g f entry ∙ sym (ap follow (A.part_version p version table x k g f 6))
       version_or k g true f = table_or k g f (table_good table) refl
 
-      closed_or : (m : Check Package) → package_of p ≡ m → string_found p version table x entry ≡ follow (looked_up p version table x 6)
-      closed_or (refuse n) g = A.string_closed p version table x n g entry ∙ sym (ap follow (A.part_closed p version table x n g 6))
-      closed_or (pass k) g = version_or k g (version_good k version) refl
+      closed_or : (m : Result Package ℕ) → package_of p ≡ m → string_found p version table x entry ≡ follow (looked_up p version table x 6)
+      closed_or (Err n) g = A.string_closed p version table x n g entry ∙ sym (ap follow (A.part_closed p version table x n g 6))
+      closed_or (Ok k) g = version_or k g (version_good k version) refl
 
   by_part : (f : Found) → f ≡ looked_up p version table x 6 → A.followed p (package_in p) version entry f ≡ string_found p version table x entry
   by_part f e = ap (A.followed p (package_in p) version entry) e ∙ sym strung
@@ -149,20 +142,20 @@ module _ (p : List ℕ) (version table x entry : ℕ) where
           let m = part_named p version table x q.start q.size l.looks 6 found in
           rw (package_in, m.opened) (encoding_known p m.held m.opened table m.index m.there)
 
-      strung_in : (r : Check Held) → r ≡ string_place p (package_in p) version entry (placed q)
-          → answered (r >>= λ s. pass (part s.start s.size l.looks)) ≡ string_found p version table x entry
+      strung_in : (r : Result Held ℕ) → r ≡ string_place p (package_in p) version entry (placed q)
+          → answered (r >>= λ s. Ok (part s.start s.size l.looks)) ≡ string_found p version table x entry
       unfolding A.followed
       strung_in r g =
-          ap (λ (m : Check Held). answered (m >>= λ s. pass (part s.start s.size l.looks))) g
+          ap (λ (m : Result Held ℕ). answered (m >>= λ s. Ok (part s.start s.size l.looks))) g
           ∙ by_part (part q.start q.size l.looks) (sym found)
 
-      pub strung_placed : (s : Held) → pass s ≡ string_place p (package_in p) version entry (placed q) → part s.start s.size l.looks ≡ string_found p version table x entry
+      pub strung_placed : (s : Held) → Ok s ≡ string_place p (package_in p) version entry (placed q) → part s.start s.size l.looks ≡ string_found p version table x entry
       unfolding answered ◌>>=◌
-      strung_placed s g = strung_in (pass s) g
+      strung_placed s g = strung_in (Ok s) g
 
-      pub strung_failed : (n : ℕ) → refuse n ≡ string_place p (package_in p) version entry (placed q) → refused n ≡ string_found p version table x entry
+      pub strung_failed : (n : ℕ) → Err n ≡ string_place p (package_in p) version entry (placed q) → refused n ≡ string_found p version table x entry
       unfolding answered ◌>>=◌
-      strung_failed n g = strung_in (refuse n) g
+      strung_failed n g = strung_in (Err n) g
 
 pub ruleset looked_cases = (looked_version, looked_table, looked_out, looked_in)
 

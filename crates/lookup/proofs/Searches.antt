@@ -1,16 +1,10 @@
 -- A search in a package that was opened, by what the code holds of it.
-use mathlib.Core.Path.{◌≡◌, refl, ap, sym, ◌∙◌}
-use mathlib.Core.Bool.{Bool}
-use mathlib.Core.List.{List}
-use mathlib.Core.Option.{Option, some, none}
-use Prim.Native.Nat.{ℕ, ◌+◌, ◌-◌, ◌≤◌, ◌<◌}
-use native.Mathlib.Omega.{arith}
-use lib.ListN.{length, take, drop, get_or}
-use Rattle.octets.specs.Checked.{Check, pass, refuse, ◌>>=◌, mapped}
+use Rattle.std.proofs.Common.{◌≡◌, refl, ap, sym, ◌∙◌, Bool, List, ℕ, ◌+◌, ◌-◌, ◌≤◌, ◌<◌, arith, length, take, drop, get_or}
+use Rattle.std.specs.Prelude.{Option, Some, None, Result, Ok, Err}
+use Rattle.octets.specs.Checked.{◌>>=◌, mapped}
 use Rattle.octets.specs.Options.{found}
 use Rattle.octets.proofs.Checks.{pass_inj}
 use Rattle.octets.proofs.Parts.{part_cut}
-use Rattle.std.specs.Prelude.{Some, None, Result, Ok, Err}
 use Rattle.numbers.specs.Refused.{told, number_of}
 use Rattle.numbers.specs.declared.refusals.Refusal.{Refusal}
 use Rattle.bundle.specs.Bundle.{count, first_part, body}
@@ -38,26 +32,26 @@ use Rattle.lookup.proofs.Answered.{table_missing, row_absent, row_found}
 
 -- ---- whether it was opened
 module _ (p : List ℕ) where
-  pub opened_not : (n : ℕ) → refuse n ≡ opened (package_of p) → package_of p ≡ refuse 21
+  pub opened_not : (n : ℕ) → Err n ≡ opened (package_of p) → package_of p ≡ Err 21
   unfolding opened
   opened_not n e =
       let r = of_refuse head_in (package_of p) n e in
-      r ∙ ap refuse (package_refused p n r)
+      r ∙ ap Err (package_refused p n r)
 
-  pub opened_else : (r : Result PackageHead Refusal) → told r ≡ opened (package_of p) → ((h : PackageHead) → r ≡ Ok h → ⊥) → package_of p ≡ refuse 21
+  pub opened_else : (r : Result PackageHead Refusal) → told r ≡ opened (package_of p) → ((h : PackageHead) → r ≡ Ok h → ⊥) → package_of p ≡ Err 21
   opened_else (Ok h) e f = absurd (f h refl)
   opened_else (Err r) e f = opened_not (number_of r) e
 
-  held_is : (k : Package) → package_of p ≡ pass k → package_in p ≡ k
+  held_is : (k : Package) → package_of p ≡ Ok k → package_in p ≡ k
   unfolding package_in
   held_is k e = rw (package_in, e)
 
-  pub opened_good : (h : PackageHead) → pass h ≡ opened (package_of p) → Opened p h
+  pub opened_good : (h : PackageHead) → Ok h ≡ opened (package_of p) → Opened p h
   unfolding opened
   opened_good h e =
       let m = of_pass head_in (package_of p) h e in
       let is = held_is m.0 m.1 in
-      record { is = m.1 ∙ ap pass (sym is); head = m.2 ∙ ap head_in (sym is) }
+      record { is = m.1 ∙ ap Ok (sym is); head = m.2 ∙ ap head_in (sym is) }
 
 module _ (p : List ℕ) (h : PackageHead) (o : Opened p h) where
   -- ---- a section
@@ -98,29 +92,29 @@ module _ (p : List ℕ) (h : PackageHead) (o : Opened p h) where
     table_none e = go (index_for (package_in p) t) (e ∙ table_is)
       where
         go : (i : Option Index) → None ≡ indexed i → None ≡ found i
-        go (some i) f = absurd (let z : ◌≡◌ {A = ℕ} 0 1 = cc in omega arith)
-        go none f = refl
+        go (Some i) f = absurd (let z : ◌≡◌ {A = ℕ} 0 1 = cc in omega arith)
+        go None f = refl
 
     -- s is the bytes of the index whose head is there
     module _ (i : IndexHead) (e : Some i ≡ table_index h t) (s : List ℕ) (code : ℕ) (c : code ≡ index_code t) (b : s ≡ body p (package_in p).parts code) where
-      read : (j : Index) × (index_for (package_in p) t ≡ some j) × (index_of h.encoding.big s ≡ pass j) × (i ≡ head_of j)
+      read : (j : Index) × (index_for (package_in p) t ≡ Some j) × (index_of h.encoding.big s ≡ Ok j) × (i ≡ head_of j)
       unfolding indexed
       read = go (index_for (package_in p) t) refl (e ∙ table_is)
         where
-          known : (j : Index) → index_for (package_in p) t ≡ some j → index_of h.encoding.big s ≡ pass j
+          known : (j : Index) → index_for (package_in p) t ≡ Some j → index_of h.encoding.big s ≡ Ok j
           known j f =
               ap (λ (z : Bool). index_of z s) big_is
               ∙ ap (index_of (package_in p).encoding.big) (b ∙ ap (body p (package_in p).parts) c)
               ∙ index_known p (package_in p) o.is t j f
 
           go : (m : Option Index) → index_for (package_in p) t ≡ m → Some i ≡ indexed m
-              → (j : Index) × (index_for (package_in p) t ≡ some j) × (index_of h.encoding.big s ≡ pass j) × (i ≡ head_of j)
-          go (some j) f g = (j, f, known j f, cc)
-          go none f g = absurd (let z : ◌≡◌ {A = ℕ} 0 1 = cc in omega arith)
+              → (j : Index) × (index_for (package_in p) t ≡ Some j) × (index_of h.encoding.big s ≡ Ok j) × (i ≡ head_of j)
+          go (Some j) f g = (j, f, known j f, cc)
+          go None f g = absurd (let z : ◌≡◌ {A = ℕ} 0 1 = cc in omega arith)
 
       well : ReadWell h.encoding.big s i
       unfolding mapped
-      well = record { is = ap (mapped head_of) read.2 ∙ ap pass (sym read.3) }
+      well = record { is = ap (mapped head_of) read.2 ∙ ap Ok (sym read.3) }
 
       pub table_sized : Sized s i
       table_sized = read_sized h.encoding.big s i well
@@ -131,21 +125,21 @@ module _ (p : List ℕ) (h : PackageHead) (o : Opened p h) where
           ap Some same ∙ sym (ap found read.1)
 
     -- ---- the index that is there
-    pub absent_in : (x section : ℕ) → None ≡ found (index_for (package_in p) t) → pass (absent 0) ≡ part_in (package_in p) t x section
+    pub absent_in : (x section : ℕ) → None ≡ found (index_for (package_in p) t) → Ok (absent 0) ≡ part_in (package_in p) t x section
     unfolding part_in
     absent_in x section e = sym (table_missing x _ _ (go (index_for (package_in p) t) e))
       where
-        go : (i : Option Index) → None ≡ found i → i ≡ none
-        go (some i) f = absurd (let z : ◌≡◌ {A = ℕ} 0 1 = cc in omega arith)
-        go none f = refl
+        go : (i : Option Index) → None ≡ found i → i ≡ None
+        go (Some i) f = absurd (let z : ◌≡◌ {A = ℕ} 0 1 = cc in omega arith)
+        go None f = refl
 
     module _ (i : Index) (e : Some i ≡ found (index_for (package_in p) t)) where
-      there : index_for (package_in p) t ≡ some i
+      there : index_for (package_in p) t ≡ Some i
       there = go (index_for (package_in p) t) e
         where
-          go : (m : Option Index) → Some i ≡ found m → m ≡ some i
-          go (some j) f = cc
-          go none f = absurd (let z : ◌≡◌ {A = ℕ} 0 1 = cc in omega arith)
+          go : (m : Option Index) → Some i ≡ found m → m ≡ Some i
+          go (Some j) f = cc
+          go None f = absurd (let z : ◌≡◌ {A = ℕ} 0 1 = cc in omega arith)
 
       pub index_well : Well i
       index_well = record {
@@ -155,7 +149,7 @@ module _ (p : List ℕ) (h : PackageHead) (o : Opened p h) where
       }
 
       module _ (x : ℕ) (q : Probed) (f : q ≡ probed_of (probe i x)) where
-        pub search_absent : q.slot ≡ None → (section : ℕ) → pass (absent q.looks) ≡ part_in (package_in p) t x section
+        pub search_absent : q.slot ≡ None → (section : ℕ) → Ok (absent q.looks) ≡ part_in (package_in p) t x section
         unfolding part_in
         search_absent g section = sym (row_absent x (λ j row. part_place (package_in p) j row section) _ i there q.looks (probed_absent q (probe i x) f g))
 
@@ -163,7 +157,7 @@ module _ (p : List ℕ) (h : PackageHead) (o : Opened p h) where
           pub search_row : FoundRow i slot q.looks
           search_row = found_row i index_well x slot q.looks (probed_found q (probe i x) f slot g)
 
-          pub search_found : (section : ℕ) → (part_place (package_in p) i (get_or i.rows slot 0) section >>= λ s. pass (part s.start s.size q.looks)) ≡ part_in (package_in p) t x section
+          pub search_found : (section : ℕ) → (part_place (package_in p) i (get_or i.rows slot 0) section >>= λ s. Ok (part s.start s.size q.looks)) ≡ part_in (package_in p) t x section
           unfolding part_in
           search_found section = sym (row_found x (λ j row. part_place (package_in p) j row section) _ i there slot q.looks (probed_found q (probe i x) f slot g))
 
@@ -171,23 +165,23 @@ module _ (p : List ℕ) (h : PackageHead) (o : Opened p h) where
           slot_inside = search_row.inside
 
           module _ (row section : ℕ) (r : row ≡ get_or i.rows slot 0) where
-            pub search_placed : (s : Place) → pass s ≡ part_place (package_in p) i row section → pass (part s.start s.size q.looks) ≡ part_in (package_in p) t x section
+            pub search_placed : (s : Place) → Ok s ≡ part_place (package_in p) i row section → Ok (part s.start s.size q.looks) ≡ part_in (package_in p) t x section
             unfolding ◌>>=◌
-            search_placed s m = ap (λ (m : Check Place). m >>= λ s. pass (part s.start s.size q.looks)) (rw r at m) ∙ search_found section
+            search_placed s m = ap (λ (m : Result Place ℕ). m >>= λ s. Ok (part s.start s.size q.looks)) (rw r at m) ∙ search_found section
 
-            pub search_refused : (n : ℕ) → refuse n ≡ part_place (package_in p) i row section → refuse n ≡ part_in (package_in p) t x section
+            pub search_refused : (n : ℕ) → Err n ≡ part_place (package_in p) i row section → Err n ≡ part_in (package_in p) t x section
             unfolding ◌>>=◌
-            search_refused n m = ap (λ (m : Check Place). m >>= λ s. pass (part s.start s.size q.looks)) (rw r at m) ∙ search_found section
+            search_refused n m = ap (λ (m : Result Place ℕ). m >>= λ s. Ok (part s.start s.size q.looks)) (rw r at m) ∙ search_found section
 
 -- ---- the cell of a row
 module _ (k : Package) (i : Index) (row section : ℕ) where
-  pub row_missing : None ≡ cell_found (cell_of i row section) → pass (record { start = 0; size = 0 }) ≡ part_place k i row section
+  pub row_missing : None ≡ cell_found (cell_of i row section) → Ok (record { start = 0; size = 0 }) ≡ part_place k i row section
   unfolding cell_found
   row_missing e = sym (column_missing k i row section (go (cell_of i row section) e))
     where
-      go : (m : Option Contribution) → None ≡ cell_found m → m ≡ none
-      go (some c) g = absurd (let z : ◌≡◌ {A = ℕ} 0 1 = cc in omega arith)
-      go none g = refl
+      go : (m : Option Contribution) → None ≡ cell_found m → m ≡ None
+      go (Some c) g = absurd (let z : ◌≡◌ {A = ℕ} 0 1 = cc in omega arith)
+      go None g = refl
 
   pub row_placed : (v : Cell) → Some v ≡ cell_found (cell_of i row section)
       → place_in (first_part k.parts section) (record { offset = v.offset; size = v.size }) ≡ part_place k i row section
@@ -196,11 +190,11 @@ module _ (k : Package) (i : Index) (row section : ℕ) where
     where
       go : (m : Option Contribution) → cell_of i row section ≡ m → Some v ≡ cell_found m
           → place_in (first_part k.parts section) (record { offset = v.offset; size = v.size }) ≡ part_place k i row section
-      go (some c) f g =
+      go (Some c) f g =
           let same : v ≡ record { offset = c.offset; size = c.size } = cc in
           ap (λ (z : Cell). place_in (first_part k.parts section) (record { offset = z.offset; size = z.size })) same
           ∙ sym (column_present k i row section c f)
-      go none f g = absurd (let z : ◌≡◌ {A = ℕ} 0 1 = cc in omega arith)
+      go None f g = absurd (let z : ◌≡◌ {A = ℕ} 0 1 = cc in omega arith)
 
 pub ruleset table_cases = (table_none, table_sized, table_some, code_lt)
 

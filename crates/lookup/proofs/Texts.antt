@@ -1,14 +1,8 @@
 -- 25 and 26, by what the code holds: the entry of a part of str_offsets, and the string that it names.
-use mathlib.Core.Path.{◌≡◌, refl, ap, sym, ◌∙◌}
-use mathlib.Core.Bool.{true}
-use mathlib.Core.List.{List}
-use mathlib.Core.Logic.{◌⊎◌, inl, inr, ⊎_elim}
-use mathlib.Core.Option.{Option, some, none}
-use Prim.Native.Nat.{ℕ, ◌+◌, ◌*◌, ◌-◌, ◌/◌, ◌≤◌, ◌<◌}
-use native.Mathlib.Omega.{arith}
-use lib.ListN.{length, get_or}
+use Rattle.std.proofs.Common.{◌≡◌, refl, ap, sym, ◌∙◌, true, List, ◌⊎◌, inl, inr, ⊎_elim, ℕ, ◌+◌, ◌*◌, ◌-◌, ◌/◌, ◌≤◌, ◌<◌, arith, length, get_or}
+use Rattle.std.specs.Prelude.{Option, Some, None, Result, Ok, Err}
 use Rattle.octets.specs.Octets.{number_at}
-use Rattle.octets.specs.Checked.{Check, pass, refuse, mapped, ◌>>=◌}
+use Rattle.octets.specs.Checked.{mapped, ◌>>=◌}
 use Rattle.octets.proofs.Checks.{then_pass, then_refuse}
 use Rattle.octets.proofs.Parts.{length_part_le}
 use Rattle.bundle.specs.Bundle.{Part as BundlePart, first_part, body}
@@ -44,8 +38,8 @@ none_inside w k e = ⊎_elim (λ f. rw f (omega arith)) (λ f. rw f (omega arith
 
 pub start_in_law : (o : Option BundlePart) → start_of o ≡ Scans.start_in o
 unfolding start_of Scans.start_in
-start_in_law (some s) = refl
-start_in_law none = refl
+start_in_law (Some s) = refl
+start_in_law None = refl
 
 -- a string is found at an entry's offset
 text_entry : (p : List ℕ) (k : Package) (version entry : ℕ) (s : Place) → entry < (s.size - entries_start version k.encoding) / k.encoding.width
@@ -53,23 +47,23 @@ text_entry : (p : List ℕ) (k : Package) (version entry : ℕ) (s : Place) → 
 unfolding text_place Scans.start_of
 text_entry p k version entry s l = go (string_at 26 (body p k.parts 11) (entry_offset p k version entry s)) refl
   where
-    go : (m : Check (List ℕ)) → string_at 26 (body p k.parts 11) (entry_offset p k version entry s) ≡ m → text_place p k (entry_offset p k version entry s) ≡ string_place p k version entry s
-    go (pass t) f =
-        then_pass _ _ _ f ∙ ap (λ (n : ℕ). pass (record { start = n + entry_offset p k version entry s; size = length t })) (sym (start_in_law (first_part k.parts 11)))
+    go : (m : Result (List ℕ) ℕ) → string_at 26 (body p k.parts 11) (entry_offset p k version entry s) ≡ m → text_place p k (entry_offset p k version entry s) ≡ string_place p k version entry s
+    go (Ok t) f =
+        then_pass _ _ _ f ∙ ap (λ (n : ℕ). Ok (record { start = n + entry_offset p k version entry s; size = length t })) (sym (start_in_law (first_part k.parts 11)))
         ∙ sym (string_there p k version entry s l t f)
-    go (refuse n) f = then_refuse _ _ _ f ∙ sym (string_missing p k version entry s l n f)
+    go (Err n) f = then_refuse _ _ _ f ∙ sym (string_missing p k version entry s l n f)
 
 module _ (p : List ℕ) (h : PackageHead) (o : Opened p h) where
   -- ---- the string at an offset
   module _ (s : List ℕ) (b : s ≡ body p (package_in p).parts 11) (offset : ℕ) where
-    pub text_missing : refuse 26 ≡ mapped (place_read offset) (string_at 26 s offset) → refuse 26 ≡ text_place p (package_in p) offset
+    pub text_missing : Err 26 ≡ mapped (place_read offset) (string_at 26 s offset) → Err 26 ≡ text_place p (package_in p) offset
     unfolding text_place ◌>>=◌
     text_missing e =
-        let is : string_at 26 (body p (package_in p).parts 11) offset ≡ refuse 26 = sym (ap (λ (l : List ℕ). string_at 26 l offset) b) ∙ place_missing 26 offset (string_at 26 s offset) e in
+        let is : string_at 26 (body p (package_in p).parts 11) offset ≡ Err 26 = sym (ap (λ (l : List ℕ). string_at 26 l offset) b) ∙ place_missing 26 offset (string_at 26 s offset) e in
         rw (text_place, is)
 
-    module _ (x : StringPlace) (start : ℕ) (e : pass x ≡ mapped (place_read offset) (string_at 26 s offset)) (c : start ≡ get_or h.sections.start 11 0) where
-      text : (t : List ℕ) × (string_at 26 s offset ≡ pass t) × (x.start ≡ offset) × (x.size ≡ length t)
+    module _ (x : StringPlace) (start : ℕ) (e : Ok x ≡ mapped (place_read offset) (string_at 26 s offset)) (c : start ≡ get_or h.sections.start 11 0) where
+      text : (t : List ℕ) × (string_at 26 s offset ≡ Ok t) × (x.start ≡ offset) × (x.size ≡ length t)
       text = place_found x offset (string_at 26 s offset) e
 
       pub text_fits : start + x.start + x.size ≤ length p
@@ -82,14 +76,14 @@ module _ (p : List ℕ) (h : PackageHead) (o : Opened p h) where
           let sn = text.3 in
           omega (arith, is.within)
 
-      pub text_found : pass (record { start = start + x.start; size = x.size }) ≡ text_place p (package_in p) offset
+      pub text_found : Ok (record { start = start + x.start; size = x.size }) ≡ text_place p (package_in p) offset
       unfolding text_place
       text_found =
-          let is : string_at 26 (body p (package_in p).parts 11) offset ≡ pass text.0 = sym (ap (λ (l : List ℕ). string_at 26 l offset) b) ∙ text.1 in
+          let is : string_at 26 (body p (package_in p).parts 11) offset ≡ Ok text.0 = sym (ap (λ (l : List ℕ). string_at 26 l offset) b) ∙ text.1 in
           let sa = text.2 in
           let place : Scans.start_of (package_in p).parts 11 + offset ≡ start + x.start = omega (arith, c, start_is p h o 11 (omega arith)) in
           let size : length text.0 ≡ x.size = sym text.3 in
-          sym (then_pass _ _ _ is ∙ ap pass (λ i. record { start = place i; size = size i }))
+          sym (then_pass _ _ _ is ∙ ap Ok (λ i. record { start = place i; size = size i }))
 
   -- ---- an entry
   module _ (g : encoding_good (package_in p).encoding ≡ true) (version entry : ℕ) (s : Place) (width first : ℕ) (ew : width ≡ (encoding_is h.encoding).width)
@@ -106,17 +100,17 @@ module _ (p : List ℕ) (h : PackageHead) (o : Opened p h) where
     unfolding entries_start
     first_is = ef ∙ ap (entries_from version) width_is
 
-    missing : (s.size - first) / width ≤ entry → refuse 25 ≡ string_place p (package_in p) version entry s
+    missing : (s.size - first) / width ≤ entry → Err 25 ≡ string_place p (package_in p) version entry s
     missing l =
         let m : (s.size - entries_start version (package_in p).encoding) / (package_in p).encoding.width ≤ entry = rw (← first_is, ← width_is) l in
         sym (entry_missing p (package_in p) version entry s m)
 
-    pub entry_short : s.size < first → refuse 25 ≡ string_place p (package_in p) version entry s
+    pub entry_short : s.size < first → Err 25 ≡ string_place p (package_in p) version entry s
     entry_short l =
         let z : 0 ≡ s.size - first = omega arith in
         missing (rw z at (none_inside width entry either))
 
-    pub entry_past : (s.size - first) / width ≤ entry → refuse 25 ≡ string_place p (package_in p) version entry s
+    pub entry_past : (s.size - first) / width ≤ entry → Err 25 ≡ string_place p (package_in p) version entry s
     entry_past l = missing l
 
     module _ (l : entry < (s.size - first) / width) (f : first ≤ s.size) (w : s.start + s.size ≤ length p) where

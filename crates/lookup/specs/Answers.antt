@@ -1,8 +1,7 @@
 -- What the code holds of a package, which need not be believed; and at the end the answers as callers are told them.
-use Rattle.std.specs.Prelude.{◌≡◌, Bool, true, false, ◌&&◌, ◌||◌, List, [], ℕ, ◌+◌, ◌≤◌, ◌<◌, nat_le, length, drop, Some, None, Result, Ok, Err, ◌==◌, if◌then◌else◌}
+use Rattle.std.specs.Prelude.{◌≡◌, Bool, true, false, ◌&&◌, ◌||◌, List, [], ℕ, ◌+◌, ◌≤◌, ◌<◌, nat_le, length, drop, Some, None, Result, Ok, Err, ◌==◌, if◌then◌else◌, Option}
 use Rattle.std.specs.Prelude as code
 use Rattle.std.specs.List.{list_all}
-use Rattle.std.proofs.Math.Option.{Option, some, none}
 use Rattle.numbers.specs.Tables.{compilation_table, dwarf5, index2, index5}
 use Rattle.numbers.specs.Limits.{package_limit}
 use Rattle.numbers.specs.Sections.{str_offsets_code, str_code, cu_index_code, tu_index_code}
@@ -10,7 +9,7 @@ use Rattle.numbers.specs.Refusals.{bad_package, no_string_there}
 use Rattle.numbers.specs.Refused.{number_of}
 use Rattle.numbers.specs.declared.refusals.Refusal.{Refusal}
 use Rattle.octets.specs.Octets.{part as cut}
-use Rattle.octets.specs.Checked.{Check, pass, refuse, ◌>>=◌, mapped, renumbered}
+use Rattle.octets.specs.Checked.{◌>>=◌, mapped, renumbered}
 use Rattle.bundle.specs.Encoding.{Encoding, encoding_of}
 use Rattle.bundle.specs.Bundle.{Part as BundlePart, Bundle, bundle_of, length_good, step_at, body}
 use Rattle.bundle.specs.Next.{next_of}
@@ -33,8 +32,8 @@ unfoldable pub coded : Encoding → ObjectEncoding
 coded e = record { big = e.big; five = e.version == dwarf5; wide = e.width == 8; long = e.address == 8 }
 
 unfoldable pub indexed : Option Index → code.Option IndexHead
-indexed (some i) = Some (head_of i)
-indexed none = None
+indexed (Some i) = Some (head_of i)
+indexed None = None
 
 -- the sections of the one object follow the head and the object word
 unfoldable pub head_in : Package → PackageHead
@@ -44,7 +43,7 @@ head_in k = record { encoding = coded k.encoding; sections = scan_of 8 k.parts; 
 unfoldable pub empty : Bool → PackageHead
 empty big = record { encoding = coded (encoding_of big 0); sections = scan_of 8 []; cu = None; tu = None }
 
-unfoldable pub opened : Check Package → Check PackageHead
+unfoldable pub opened : Result Package ℕ → Result PackageHead ℕ
 opened = mapped head_in
 
 -- by the counts of a scan: no section stands there twice
@@ -52,9 +51,9 @@ abbrev pub single : List ℕ → Bool
 single counts = list_all (λ n. nat_le n 1) counts
 
 -- an index of which there are so many
-unfoldable pub index_by : ℕ → Check Index → Check (code.Option IndexHead)
+unfoldable pub index_by : ℕ → Result Index ℕ → Result (code.Option IndexHead) ℕ
 index_by count m = if count == 0
-    then pass None
+    then Ok None
     else mapped (λ i. Some (head_of i)) (renumbered bad_package m)
 
 -- the package is its one object, of that word and those sections
@@ -68,18 +67,18 @@ pub record Alone (p : List ℕ) (big : Bool) (word : ℕ) (sections : Scan) : Ty
 pub record Entering (p : List ℕ) (big : Bool) (word : ℕ) : Type 0 where
   pub long : length_good package_limit p ≡ true
   pub bundle : Bundle
-  pub read : bundle_of p ≡ pass bundle
+  pub read : bundle_of p ≡ Ok bundle
   pub order : bundle.big ≡ big
-  pub first : pass (Object word 8) ≡ next_of 4 (step_at 4 (drop 4 p))
+  pub first : Ok (Object word 8) ≡ next_of 4 (step_at 4 (drop 4 p))
 
 -- ---- a package that was opened
 -- of any bytes; where they are refused, one without objects
 unfoldable pub package_in : List ℕ → Package
 package_in p =
-    elim (package_of p) [ pass k ↦ k | refuse n ↦ record { encoding = encoding_of false 0; parts = []; cu_index = none; tu_index = none } ]
+    elim (package_of p) [ Ok k ↦ k | Err n ↦ record { encoding = encoding_of false 0; parts = []; cu_index = None; tu_index = None } ]
 
 pub record Opened (p : List ℕ) (h : PackageHead) : Type 0 where
-  pub is : package_of p ≡ pass (package_in p)
+  pub is : package_of p ≡ Ok (package_in p)
   pub head : h ≡ head_in (package_in p)
 
 -- 22, by the indexes that are there
@@ -102,14 +101,14 @@ abbrev pub entries_from : ℕ → ℕ → ℕ
 entries_from version width = if version == index5 then width + width else 0
 
 -- the string at an offset of str
-unfoldable pub text_place : List ℕ → Package → ℕ → Check Place
-text_place p k offset = string_at no_string_there (body p k.parts str_code) offset >>= λ t. pass (record { start = start_of k.parts str_code + offset; size = length t })
+unfoldable pub text_place : List ℕ → Package → ℕ → Result Place ℕ
+text_place p k offset = string_at no_string_there (body p k.parts str_code) offset >>= λ t. Ok (record { start = start_of k.parts str_code + offset; size = length t })
 
 -- the part of a section, and the string of an entry, in the index of a table
-unfoldable pub part_in : Package → ℕ → ℕ → ℕ → Check Found
+unfoldable pub part_in : Package → ℕ → ℕ → ℕ → Result Found ℕ
 part_in k table x code = in_table (index_for k table) x (λ i row. part_place k i row code)
 
-unfoldable pub string_in : List ℕ → Package → ℕ → ℕ → ℕ → ℕ → Check Found
+unfoldable pub string_in : List ℕ → Package → ℕ → ℕ → ℕ → ℕ → Result Found ℕ
 string_in p k version table x entry = in_table (index_for k table) x (λ i row. part_place k i row str_offsets_code >>= string_place p k version entry)
 
 -- ---- the answers

@@ -1,6 +1,5 @@
 -- The refusals of the code, by their numbers. What a call answers is a value or a refusal, and stands for a check.
 use Rattle.std.specs.Prelude.{ℕ, Result, Ok, Err}
-use Rattle.octets.specs.Checked.{Check, pass, refuse}
 use Rattle.numbers.specs.Refusals as number
 use Rattle.numbers.specs.declared.refusals.Refusal.{Refusal}
 use Rattle.numbers.specs.declared.refusals.Refusal.TheVariants.{BadLength, WorkShort, BadWords, BadEncoding, OtherEncoding, WrongEdition, SectionMissing}
@@ -44,6 +43,6 @@ number_of FileShort = number.file_short
 number_of BadQuestions = number.bad_questions
 
 -- the check that an answer stands for
-abbrev pub told : {A : Type 0} → Result A Refusal → Check A
-told (Ok a) = pass a
-told (Err r) = refuse (number_of r)
+abbrev pub told : {A : Type 0} → Result A Refusal → Result A ℕ
+told (Ok a) = Ok a
+told (Err r) = Err (number_of r)

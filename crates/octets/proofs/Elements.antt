@@ -1,16 +1,6 @@
 -- Tests over a list by its elements, turns of a loop that tests them one by one, and numbers that stand in a list.
-use mathlib.Core.Path.{◌≡◌, refl, sym, ap, ◌∙◌}
-use mathlib.Core.Logic.{⊎_elim}
-use mathlib.Core.Bool.{Bool, true, false, ◌||◌}
-use mathlib.Core.List.{List, [], ◌∷◌, ◌++◌}
-use Prim.Native.Nat.{ℕ, zero, suc, ◌+◌, ◌<◌}
-use native.Mathlib.Nat.{not-suc-le-zero, le_of_suc-le-suc}
-use native.Mathlib.Omega.{arith}
-use native.Mathlib.Numerals.{add-one}
-use lib.Dec.{eqb}
-use lib.ListN.{length, drop, get_or}
-use lib.Seq.{drop-cons}
-use borrow.Author.Tests.{eqb-true, eqb-false, eq-eqb, ne_eqb}
+use Rattle.std.proofs.Common.{◌≡◌, refl, sym, ap, ◌∙◌, ⊎_elim, Bool, true, false, ◌||◌, List, [], ◌∷◌, ◌++◌, ℕ, zero, suc, ◌+◌, ◌<◌, not-suc-le-zero, le_of_suc-le-suc, arith, add-one, eqb, length, drop, get_or, drop-cons, eqb-true, eq-eqb, ne_eqb}
+use borrow.Author.Tests.{eqb-false}
 use Rattle.octets.specs.Octets.{zeros}
 use Rattle.octets.specs.Lists.{all, any, has, distinct}
 use Rattle.octets.proofs.Checks.{true_false, known, or_right, or_neither}
@@ -24,7 +14,6 @@ module _ {A : Type 0} (f : A → Bool) (d : A) where
   all_at (x ∷ xs) (suc i) e h = all_at xs i (all_tail f x xs e) (le_of_suc-le-suc h)
 
   pub at_all : (xs : List A) → ((i : ℕ) → i < length xs → f (get_or xs i d) ≡ true) → all f xs ≡ true
-  unfolding all
   at_all [] h = refl
   at_all (x ∷ xs) h = all_cons f x xs (h 0 (omega arith)) ∙ at_all xs (λ i l. h (suc i) (omega arith))
 
@@ -37,7 +26,6 @@ module _ {A : Type 0} (f : A → Bool) (d : A) where
   any_at (x ∷ xs) (suc i) h e = any_more f x xs (any_at xs i (le_of_suc-le-suc h) e)
 
   pub at_any : (xs : List A) → any f xs ≡ true → (i : ℕ) × (i < length xs) × (f (get_or xs i d) ≡ true)
-  unfolding any
   at_any [] e = absurd (true_false e refl)
   at_any (x ∷ xs) e =
       ⊎_elim (λ p. (0, omega arith, p)) (λ p. let r = at_any xs (sym (any_cons f x xs p) ∙ e) in (suc r.0, omega (arith, r.1), r.2)) (known (f x))
@@ -59,7 +47,7 @@ module _ {A : Type 0} (f : A → Bool) (d : A) where
   any_turn_stops xs i h e = rw (drop-cons xs i d h) (any_stops f (get_or xs i d) (drop (suc i) xs) e)
 
 pub zeros_all : (n : ℕ) → all (eqb 0) (zeros n) ≡ true
-unfolding zeros all
+unfolding zeros
 zeros_all zero = refl
 zeros_all (suc n) = zeros_all n
 
@@ -115,7 +103,7 @@ distinct_at (n ∷ ns) (suc i) (suc j) e h g q = ap suc (distinct_at ns i j (dis
 
 -- one more behind, which is new
 pub distinct_snoc : (ns : List ℕ) (x : ℕ) → distinct ns ≡ true → has ns x ≡ false → distinct (ns ++ (x ∷ [])) ≡ true
-unfolding distinct has any
+unfolding distinct has
 distinct_snoc [] x e g = refl
 distinct_snoc (n ∷ ns) x e g =
     let new : eqb x n ≡ false = any_none_head (eqb x) n ns g in
@@ -125,7 +113,7 @@ distinct_snoc (n ∷ ns) x e g =
 
 -- a number that stands there already, and once more behind
 pub distinct_repeats : (ns ms : List ℕ) (x : ℕ) → has ns x ≡ true → distinct (ns ++ (x ∷ ms)) ≡ false
-unfolding has any
+unfolding has
 distinct_repeats [] ms x e = absurd (true_false e refl)
 distinct_repeats (n ∷ ns) ms x e = ⊎_elim
     (λ p. distinct_stops n (ns ++ (x ∷ ms)) p)

@@ -1,14 +1,6 @@
 -- Laws of lists: tested, filtered, joined, summed, compared.
-use mathlib.Core.Path.{◌≡◌, refl, sym, ap, ◌∙◌}
-use mathlib.Core.Logic.{◌⊎◌, inl, inr, ⊎_elim}
-use mathlib.Core.Bool.{Bool, true, false, ◌&&◌, ◌||◌}
-use mathlib.Core.List.{List, [], ◌∷◌, ◌++◌}
-use Prim.Native.Nat.{ℕ, ◌≤◌}
-use native.Mathlib.Omega.{arith}
+use Rattle.std.proofs.Common.{◌≡◌, refl, sym, ap, ◌∙◌, ◌⊎◌, inl, inr, ⊎_elim, Bool, true, false, ◌&&◌, ◌||◌, List, [], ◌∷◌, ◌++◌, ℕ, ◌≤◌, arith, eqb, length, eqb-true, eq-eqb}
 use Rattle.std.specs.List.{list_all}
-use lib.Dec.{eqb}
-use lib.ListN.{length}
-use borrow.Author.Tests.{eqb-true, eq-eqb}
 use Rattle.octets.specs.Lists.{those, all, any, same}
 use Rattle.octets.proofs.Checks.{true_false, known}
 
@@ -55,12 +47,10 @@ same_both false s t f g = sym (ne_same s t (λ e. true_false (g e) refl))
 -- ---- all
 module _ {A : Type 0} (f : A → Bool) where
   pub all_cons : (x : A) (xs : List A) → f x ≡ true → all f (x ∷ xs) ≡ all f xs
-  unfolding all
-  all_cons x xs e = rw (all, e)
+  all_cons x xs e = rw e
 
   pub all_stops : (x : A) (xs : List A) → f x ≡ false → all f (x ∷ xs) ≡ false
-  unfolding all
-  all_stops x xs e = rw (all, e)
+  all_stops x xs e = rw e
 
   pub all_head : (x : A) (xs : List A) → all f (x ∷ xs) ≡ true → f x ≡ true
   all_head x xs e = ⊎_elim (λ p. p) (λ p. absurd (true_false e (all_stops x xs p))) (known (f x))
@@ -69,7 +59,6 @@ module _ {A : Type 0} (f : A → Bool) where
   all_tail x xs e = sym (all_cons x xs (all_head x xs e)) ∙ e
 
   pub all_append : (xs ys : List A) → all f (xs ++ ys) ≡ (all f xs && all f ys)
-  unfolding all
   all_append [] ys = refl
   all_append (x ∷ xs) ys =
       ⊎_elim (λ p. all_cons x (xs ++ ys) p ∙ all_append xs ys ∙ sym (ap (λ (b : Bool). b && all f ys) (all_cons x xs p)))
@@ -77,19 +66,16 @@ module _ {A : Type 0} (f : A → Bool) where
 
   -- as the library tests all
   pub all_is_list_all : (xs : List A) → all f xs ≡ list_all f xs
-  unfolding all
   all_is_list_all [] = refl
   all_is_list_all (x ∷ xs) =
       ⊎_elim (λ p. all_cons x xs p ∙ all_is_list_all xs ∙ rw p) (λ p. all_stops x xs p ∙ rw p) (known (f x))
 
   -- ---- any
   pub any_cons : (x : A) (xs : List A) → f x ≡ false → any f (x ∷ xs) ≡ any f xs
-  unfolding any
-  any_cons x xs e = rw (any, e)
+  any_cons x xs e = rw e
 
   pub any_stops : (x : A) (xs : List A) → f x ≡ true → any f (x ∷ xs) ≡ true
-  unfolding any
-  any_stops x xs e = rw (any, e)
+  any_stops x xs e = rw e
 
   pub any_cases : (x : A) (xs : List A) → any f (x ∷ xs) ≡ true → (f x ≡ true) ⊎ (any f xs ≡ true)
   any_cases x xs e = ⊎_elim (λ p. inl p) (λ p. inr (sym (any_cons x xs p) ∙ e)) (known (f x))
@@ -104,7 +90,6 @@ module _ {A : Type 0} (f : A → Bool) where
   any_none_tail x xs e = sym (any_cons x xs (any_none_head x xs e)) ∙ e
 
   pub any_append : (xs ys : List A) → any f (xs ++ ys) ≡ (any f xs || any f ys)
-  unfolding any
   any_append [] ys = refl
   any_append (x ∷ xs) ys =
       ⊎_elim (λ p. any_stops x (xs ++ ys) p ∙ sym (ap (λ (b : Bool). b || any f ys) (any_stops x xs p)))
@@ -112,22 +97,18 @@ module _ {A : Type 0} (f : A → Bool) where
 
   -- ---- those
   pub those_keeps : (x : A) (xs : List A) → f x ≡ true → those f (x ∷ xs) ≡ x ∷ those f xs
-  unfolding those
-  those_keeps x xs e = rw (those, e)
+  those_keeps x xs e = rw e
 
   pub those_skips : (x : A) (xs : List A) → f x ≡ false → those f (x ∷ xs) ≡ those f xs
-  unfolding those
-  those_skips x xs e = rw (those, e)
+  those_skips x xs e = rw e
 
   pub those_append : (xs ys : List A) → those f (xs ++ ys) ≡ those f xs ++ those f ys
-  unfolding those
   those_append [] ys = refl
   those_append (x ∷ xs) ys =
       ⊎_elim (λ p. those_keeps x (xs ++ ys) p ∙ ap (λ (z : List A). x ∷ z) (those_append xs ys) ∙ sym (ap (λ (z : List A). z ++ those f ys) (those_keeps x xs p)))
       (λ p. those_skips x (xs ++ ys) p ∙ those_append xs ys ∙ sym (ap (λ (z : List A). z ++ those f ys) (those_skips x xs p))) (known (f x))
 
   pub length_those : (xs : List A) → length (those f xs) ≤ length xs
-  unfolding those
   length_those [] = omega arith
   length_those (x ∷ xs) =
       ⊎_elim (λ p. rw (those_keeps x xs p) (omega (arith, length_those xs))) (λ p. rw (those_skips x xs p) (omega (arith, length_those xs))) (known (f x))

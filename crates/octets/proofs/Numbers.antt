@@ -1,14 +1,6 @@
 -- Laws of one number in bytes, for every width and both byte orders: its bound, its place, what is written is read back.
-use mathlib.Core.Path.{◌≡◌, sym, refl, ap, ◌∙◌}
-use mathlib.Core.Bool.{Bool, true, false}
-use mathlib.Core.List.{List, [], ◌∷◌, ◌++◌, append-nil, append_assoc}
-use Prim.Native.Nat.{ℕ, zero, suc, ◌+◌, ◌*◌, ◌/◌, ◌%◌, ◌^◌, ◌<◌, ◌≤◌}
-use native.Mathlib.Nat.{le_refl, lt_of_le_of_lt, lt_of_lt_of_le, mul_assoc, one-mul, pow-le-pow_right, mul-le-mul_right, pow-succ'}
-use native.Mathlib.Omega.{arith}
-use native.Mathlib.Numerals.{add-one}
-use lib.Dec.{lit<}
-use lib.ListN.{length, get_or, take, drop, length-append, drop_of_length-le}
-use lib.Seq.{take-suc, take_all, length-take-le, drop-cons, get_or-drop}
+use Rattle.std.proofs.Common.{◌≡◌, sym, refl, ap, ◌∙◌, Bool, true, false, List, [], ◌∷◌, ◌++◌, append-nil, append_assoc, ℕ, zero, suc, ◌+◌, ◌*◌, ◌/◌, ◌%◌, ◌^◌, ◌<◌, ◌≤◌, le_refl, lt_of_le_of_lt, lt_of_lt_of_le, mul_assoc, one-mul, mul-le-mul_right, arith, add-one, lit<, length, get_or, take, drop, length-append, drop_of_length-le, take-suc, take_all, length-take-le, drop-cons, get_or-drop}
+use native.Mathlib.Nat.{pow-le-pow_right, pow-succ'}
 use Rattle.octets.specs.Octets.{part, little, big_from, number, number_at, little_of, big_of, bytes_of}
 use Rattle.octets.proofs.Parts.{length_part, part_part, part_drop, part_append_front, part_append_behind, part_middle, length_part_le}
 

@@ -1,11 +1,9 @@
 -- What is there is one thing, and nothing is not there.
-use mathlib.Core.Path.{◌≡◌}
-use mathlib.Core.Option.{some, none}
-use Prim.Native.Nat.{ℕ}
-use native.Mathlib.Omega.{arith}
+use Rattle.std.proofs.Common.{◌≡◌, ℕ, arith}
+use Rattle.std.specs.Prelude.{Some, None}
 
-pub some_inj : {A : Type 0} {a b : A} → some a ≡ some b → a ≡ b
+pub some_inj : {A : Type 0} {a b : A} → Some a ≡ Some b → a ≡ b
 some_inj e = cc
 
-pub some_none : {A : Type 0} {a : A} {P : Type 0} → some a ≡ none → P
+pub some_none : {A : Type 0} {a : A} {P : Type 0} → Some a ≡ None → P
 some_none e = let z : ◌≡◌ {A = ℕ} 0 1 = cc in absurd (omega arith)

@@ -1,11 +1,7 @@
 -- Laws of parts of a list.
-use mathlib.Core.Path.{◌≡◌, refl, sym}
-use mathlib.Core.List.{List, [], ◌∷◌, ◌++◌}
-use Prim.Native.Nat.{ℕ, zero, suc, ◌+◌, ◌-◌, ◌<◌, ◌≤◌}
+use Rattle.std.proofs.Common.{◌≡◌, refl, sym, List, [], ◌∷◌, ◌++◌, ℕ, zero, suc, ◌+◌, ◌-◌, ◌<◌, ◌≤◌, arith, length, take, drop, get_or, length-take, length-drop, take-append-drop, take_all, take-take, drop-drop, take_at, drop_at, get_or-take, get_or-drop, length-take-le, take-add}
 use native.Mathlib.Nat.{sub-zero, zero-sub, suc-sub-suc}
-use native.Mathlib.Omega.{arith}
-use lib.ListN.{length, take, drop, get_or, length-take, length-drop, take-append-drop}
-use lib.Seq.{take_all, take-nil, take-length, take-take, drop-drop, take_at, drop_at, take-append-le, drop-append-le, drop-append-add, get_or-take, get_or-drop, length-take-le, take-add}
+use lib.Seq.{take-nil, take-length, take-append-le, drop-append-le, drop-append-add}
 use Rattle.octets.specs.Octets.{part}
 
 pub drop_take : (b n : ℕ) (s : List ℕ) → drop b (take n s) ≡ take (n - b) (drop b s)

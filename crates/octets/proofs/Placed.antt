@@ -1,12 +1,8 @@
 -- Laws of `placed`, `padded` and `zeros`: what a store leaves.
-use mathlib.Core.Path.{◌≡◌, refl, sym, ap, ◌∙◌}
-use mathlib.Core.List.{List, [], ◌∷◌, ◌++◌, append-nil, append_assoc}
-use Prim.Native.Nat.{ℕ, zero, suc, ◌+◌, ◌-◌, ◌/◌, ◌%◌, ◌<◌, ◌≤◌}
-use native.Mathlib.Nat.{add-zero, le-add_right}
-use native.Mathlib.Omega.{arith}
-use native.Mathlib.Numerals.{add-one, add-two}
-use lib.ListN.{length, take, drop, set, get_or, length-append, length-take, length-drop, length-replicate, drop_of_length-le, take-append-drop, replicate-append-replicate}
-use lib.Seq.{append_snoc, take-suc-set, drop-set-lt, take-set-le, set_split, sets-eq, take-take, take-append-le, drop-drop, take_at, drop_at, drop-append-add, length-take-le}
+use Rattle.std.proofs.Common.{◌≡◌, refl, sym, ap, ◌∙◌, List, [], ◌∷◌, ◌++◌, append-nil, append_assoc, ℕ, zero, suc, ◌+◌, ◌-◌, ◌/◌, ◌%◌, ◌<◌, ◌≤◌, add-zero, le-add_right, arith, add-one, length, take, drop, set, get_or, length-append, length-take, length-drop, drop_of_length-le, take-append-drop, take-suc-set, drop-set-lt, take-take, drop-drop, take_at, drop_at, length-take-le}
+use native.Mathlib.Numerals.{add-two}
+use lib.ListN.{length-replicate, replicate-append-replicate}
+use lib.Seq.{append_snoc, take-set-le, set_split, sets-eq, take-append-le, drop-append-add}
 use Rattle.std.proofs.lemmas.List.{drop-replicate}
 use Rattle.octets.specs.Octets.{placed, padded, zeros, little_of, big_of}
 use Rattle.octets.proofs.Numbers.{length_big_of}

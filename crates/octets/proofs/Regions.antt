@@ -1,13 +1,5 @@
 -- Parts of a list in which something is placed, and what is placed in a part that was lent.
-use mathlib.Core.Path.{◌≡◌, refl, sym, ap, ◌∙◌}
-use mathlib.Core.Bool.{Bool}
-use mathlib.Core.List.{List, ◌++◌, append_assoc}
-use Prim.Native.Nat.{ℕ, suc, ◌+◌, ◌*◌, ◌<◌, ◌≤◌}
-use native.Mathlib.Nat.{mul-suc, mul-le-mul_left}
-use native.Mathlib.Omega.{arith}
-use native.Mathlib.Numerals.{add-one}
-use lib.ListN.{length, take, drop, get_or, take-append-drop}
-use lib.Seq.{drop-drop, drop-cons, take_at, length-take-le, get_or-take, get_or-drop}
+use Rattle.std.proofs.Common.{◌≡◌, refl, sym, ap, ◌∙◌, Bool, List, ◌++◌, append_assoc, ℕ, suc, ◌+◌, ◌*◌, ◌<◌, ◌≤◌, mul-suc, mul-le-mul_left, arith, add-one, length, take, drop, get_or, take-append-drop, drop-drop, drop-cons, take_at, length-take-le, get_or-take, get_or-drop}
 use borrow.Rule.Slice.PartMut.{put_mid}
 use Rattle.octets.specs.Octets.{placed, bytes_of, numbers_of, part}
 use Rattle.octets.proofs.Parts.{part_append_front, get_d_part}

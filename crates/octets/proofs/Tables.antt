@@ -1,12 +1,5 @@
 -- Laws of numbers one behind the other, w bytes for each.
-use mathlib.Core.Path.{◌≡◌, refl, sym, ap, ◌∙◌}
-use mathlib.Core.Bool.{Bool}
-use mathlib.Core.List.{List, [], ◌∷◌, ◌++◌, append_assoc, append-nil}
-use Prim.Native.Nat.{ℕ, zero, suc, ◌+◌, ◌*◌, ◌^◌, ◌<◌}
-use native.Mathlib.Nat.{not-suc-le-zero, le_of_suc-le-suc, mul-suc, mul-zero, add-zero}
-use native.Mathlib.Omega.{arith}
-use lib.ListN.{length, get_or, drop, length-append}
-use lib.Seq.{drop_at}
+use Rattle.std.proofs.Common.{◌≡◌, refl, sym, ap, ◌∙◌, Bool, List, [], ◌∷◌, ◌++◌, append_assoc, append-nil, ℕ, zero, suc, ◌+◌, ◌*◌, ◌^◌, ◌<◌, not-suc-le-zero, le_of_suc-le-suc, mul-suc, mul-zero, add-zero, arith, length, get_or, drop, length-append, drop_at}
 use Rattle.octets.specs.Octets.{number_at, numbers_in, bytes_of, numbers_of}
 use Rattle.octets.proofs.Numbers.{number_at_drop, number_at_first, number_at_round, length_bytes_of}
 

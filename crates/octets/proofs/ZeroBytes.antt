@@ -1,18 +1,10 @@
 -- The first zero byte: marks of the zero bytes of a number, made by operations on its bits, and the lowest of them.
-use mathlib.Core.Path.{◌≡◌, refl, sym, ap, ap₂, ◌∙◌}
-use mathlib.Core.Logic.{⊎_elim}
-use mathlib.Core.Bool.{Bool, true, false}
-use mathlib.Core.List.{List, [], ◌∷◌}
+use Rattle.std.proofs.Common.{◌≡◌, refl, sym, ap, ap₂, ◌∙◌, ⊎_elim, Bool, true, false, List, [], ◌∷◌, ℕ, zero, suc, ◌+◌, ◌*◌, ◌-◌, ◌/◌, ◌%◌, ◌^◌, ◌<◌, ◌≤◌, not-suc-le-zero, arith, eqb, length, get_or, eqb-true, eq-eqb, ne_eqb}
 use Rattle.std.specs.Prelude.{Option, Some, None, if◌then◌else◌}
-use Prim.Native.Nat.{ℕ, zero, suc, ◌+◌, ◌*◌, ◌-◌, ◌/◌, ◌%◌, ◌^◌, ◌<◌, ◌≤◌}
-use native.Mathlib.Nat.{pow-succ', not-suc-le-zero}
+use native.Mathlib.Nat.{pow-succ'}
 use native.Mathlib.Decide.{ℕ_discrete, dec_le}
-use native.Mathlib.Omega.{arith}
-use lib.Dec.{eqb}
 use lib.Bits.{bit_and, bit_or, and_block, or_block, and_le_r, or_lt, shifted_half, shifted_even}
 use lib.Count.{count_trailing_zeros, trailing_of_zero}
-use lib.ListN.{length, get_or}
-use borrow.Author.Tests.{eqb-true, eq-eqb, ne_eqb}
 use Rattle.octets.specs.Octets.{part, little, number, number_at, little_of, bytes_of, zero_marks}
 use Rattle.octets.specs.Lists.{FirstZero, ZeroFound}
 use Rattle.octets.proofs.Checks.{true_false, known}

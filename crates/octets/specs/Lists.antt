@@ -1,22 +1,9 @@
 -- Lists of anything: joined, filtered, tested, summed.
 use Rattle.std.specs.Prelude.{Bool, true, false, not, Option, Some, None, List, [], ◌∷◌, ◌++◌, ◌≡◌, ℕ, ◌+◌, ◌<◌, ◌≤◌, length, ◌==◌, nat_eq, slice_index, if◌then◌else◌}
+-- the kit's words, under shorter names
+pub use Rattle.std.specs.List.{concat as joined, filter as those, list_all as all, list_any as any}
 
-unfoldable pub joined : List (List ℕ) → List ℕ
-joined [] = []
-joined (x ∷ xs) = x ++ joined xs
-
-unfoldable pub those : {A : Type 0} → (A → Bool) → List A → List A
-those f [] = []
-those f (x ∷ xs) = if f x then x ∷ those f xs else those f xs
-
-unfoldable pub all : {A : Type 0} → (A → Bool) → List A → Bool
-all f [] = true
-all f (x ∷ xs) = if f x then all f xs else false
-
-unfoldable pub any : {A : Type 0} → (A → Bool) → List A → Bool
-any f [] = false
-any f (x ∷ xs) = if f x then true else any f xs
-
+-- a sum from the front: the kit's adds from the left, which computes otherwise
 unfoldable pub sum : List ℕ → ℕ
 sum [] = 0
 sum (n ∷ ns) = n + sum ns

@@ -1,16 +1,8 @@
 -- What an accepted bundle's package is made of.
-use mathlib.Core.Path.{◌≡◌, refl, sym, ap, ◌∙◌}
-use mathlib.Core.Logic.{⊎_elim}
-use mathlib.Core.Bool.{true, false}
-use mathlib.Core.List.{List, [], ◌∷◌}
-use Prim.Native.Nat.{ℕ, ◌*◌, ◌/◌, ◌%◌, ◌≤◌}
-use native.Mathlib.Omega.{arith}
-use lib.Dec.{leb}
-use lib.ListN.{length}
-use borrow.Author.Tests.{leb-true, leb-false}
+use Rattle.std.proofs.Common.{◌≡◌, refl, sym, ap, ◌∙◌, ⊎_elim, true, false, List, [], ◌∷◌, ℕ, ◌*◌, ◌/◌, ◌%◌, ◌≤◌, arith, leb, length, leb-true, leb-false}
 use Rattle.numbers.specs.Limits.{work_for_word}
 use Rattle.octets.specs.Lists.{those, all}
-use Rattle.octets.specs.Checked.{Check, pass, refuse}
+use Rattle.std.specs.Prelude.{Result, Ok, Err}
 use Rattle.octets.proofs.Checks.{bind_pass, require_pass, pass_inj, known, then_pass}
 use Rattle.octets.proofs.Lists.{all_head, all_tail, those_keeps, those_skips}
 use Rattle.octets.proofs.Numbers.{Bytes}
@@ -28,9 +20,9 @@ version_of k = first_word k.objects % 256
 
 pub record Accepted (b p : List ℕ) : Type 0 where
   pub bundle : Bundle
-  pub read : bundle_of b ≡ pass bundle
+  pub read : bundle_of b ≡ Ok bundle
   pub filing : Filing
-  pub filed : filing_of b bundle ≡ pass filing
+  pub filed : filing_of b bundle ≡ Ok filing
   pub cu : List ℕ
   pub tu : List ℕ
   pub cu_is : index_bytes bundle.big (version_of bundle) (rows_of (kept filing.units) 1) ≡ cu
@@ -38,18 +30,18 @@ pub record Accepted (b p : List ℕ) : Type 0 where
   pub small : all (λ s. leb (length s.bytes) 8_388_607) (those non_empty (section_list filing cu tu)) ≡ true
   pub is : p ≡ written bundle.big (package_objects bundle.objects (those non_empty (section_list filing cu tu)))
 
-pub made_judged : (m : Check (List ℕ)) (o : ℕ) (p : List ℕ) → answered m o ≡ made p → (m ≡ pass p) × (length p ≤ o)
+pub made_judged : (m : Result (List ℕ) ℕ) (o : ℕ) (p : List ℕ) → answered m o ≡ made p → (m ≡ Ok p) × (length p ≤ o)
 unfolding answered
-made_judged (pass q) o p e = ⊎_elim
+made_judged (Ok q) o p e = ⊎_elim
     (λ (t : leb (length q) o ≡ true). same q t (rw (answered, t) at e))
     (λ (t : leb (length q) o ≡ false). let r = rw (answered, t) at e in let z : ◌≡◌ {A = ℕ} 0 1 = cc in absurd (omega arith))
     (known (leb (length q) o))
   where
-    same : (q : List ℕ) → leb (length q) o ≡ true → made q ≡ made p → (pass q ≡ pass p) × (length p ≤ o)
-    same q t e = let z : q ≡ p = cc in (ap pass z, leb-true (length p) o (ap (λ (s : List ℕ). leb (length s) o) (sym z) ∙ t))
-made_judged (refuse n) o p e = let z : ◌≡◌ {A = ℕ} 0 1 = cc in absurd (omega arith)
+    same : (q : List ℕ) → leb (length q) o ≡ true → made q ≡ made p → ◌≡◌ {A = Result (List ℕ) ℕ} (Ok q) (Ok p) × (length p ≤ o)
+    same q t e = let z : q ≡ p = cc in (ap Ok z, leb-true (length p) o (ap (λ (s : List ℕ). leb (length s) o) (sym z) ∙ t))
+made_judged (Err n) o p e = let z : ◌≡◌ {A = ℕ} 0 1 = cc in absurd (omega arith)
 
-pub judged_accepted : (b : List ℕ) (w : ℕ) (p : List ℕ) → judged b w ≡ pass p → Accepted b p
+pub judged_accepted : (b : List ℕ) (w : ℕ) (p : List ℕ) → judged b w ≡ Ok p → Accepted b p
 unfolding judged package_sections
 judged_accepted b w p q =
     let one = require_pass (length_good 4_194_304 b) 1 _ p q in
@@ -85,7 +77,7 @@ module _ (b p : List ℕ) (a : Accepted b p) where
 
 -- ---- 19: every section, also an empty one
 small_those : (ss : List Section) → all (λ s. leb (length s.bytes) 8_388_607) (those non_empty ss) ≡ true → Every (λ s. length s.bytes ≤ 8_388_607) ss
-unfolding those non_empty
+unfolding non_empty
 small_those [] e = nothing
 small_those (s ∷ ss) e = ⊎_elim
     (λ (t : non_empty s ≡ true).

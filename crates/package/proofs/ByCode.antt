@@ -1,13 +1,5 @@
 -- The sections of the package by code: where each lies in it, and how long they are together.
-use mathlib.Core.Path.{◌≡◌, refl, sym, ap, ◌∙◌, subst}
-use mathlib.Core.Logic.{⊎_elim}
-use mathlib.Core.Bool.{Bool, true, false}
-use mathlib.Core.List.{List, [], ◌∷◌}
-use Prim.Native.Nat.{ℕ}
-use native.Mathlib.Omega.{arith}
-use lib.Dec.{eqb, leb}
-use lib.ListN.{length}
-use borrow.Author.Tests.{eqb-true, leb-false}
+use Rattle.std.proofs.Common.{◌≡◌, refl, sym, ap, ◌∙◌, subst, ⊎_elim, Bool, true, false, List, [], ◌∷◌, ℕ, arith, eqb, leb, length, eqb-true, leb-false}
 use Rattle.octets.specs.Lists.{those, any, has, distinct}
 use Rattle.octets.proofs.Checks.{known, true_false}
 use Rattle.octets.proofs.Lists.{those_keeps, those_skips, any_stops, any_cons, any_cases}
@@ -24,7 +16,7 @@ use Rattle.package.proofs.Each.{each_head, each_tail}
 -- ---- sections that are not empty
 module _ (g : Section → Bool) where
   codes_without : (ss : List Section) (c : ℕ) → has (codes_of ss) c ≡ false → has (codes_of (those g ss)) c ≡ false
-  unfolding those has any
+  unfolding has
   codes_without [] c e = refl
   codes_without (s ∷ ss) c e =
       let other : c ≡ s.code → ⊥ = λ q. true_false (has_cons c s.code (codes_of ss) q) e in
@@ -35,7 +27,7 @@ module _ (g : Section → Bool) where
       (known (g s))
 
   pub codes_distinct : (ss : List Section) → distinct (codes_of ss) ≡ true → distinct (codes_of (those g ss)) ≡ true
-  unfolding those distinct
+  unfolding distinct
   codes_distinct [] e = refl
   codes_distinct (s ∷ ss) e =
       let rest = codes_distinct ss (distinct_tail s.code (codes_of ss) e) in
@@ -74,7 +66,7 @@ left_here s ss c d h = ⊎_elim
     some s t = unfold non_empty in t
 
 pub left : (ss : List Section) (c : ℕ) → distinct (codes_of ss) ≡ true → Left ss c
-unfolding those bytes_in any
+unfolding bytes_in
 left [] c d = record { bytes = refl; there = refl }
 left (s ∷ ss) c d = ⊎_elim
     (λ (h : is_of c s ≡ true). left_here s ss c d h)
@@ -96,7 +88,7 @@ left (s ∷ ss) c d = ⊎_elim
 -- ---- the list of all sections
 module _ (f : Filing) (cu tu : List ℕ) where
   pub list_distinct : distinct (codes_of (section_list f cu tu)) ≡ true
-  unfolding section_list distinct has any
+  unfolding section_list distinct has
   list_distinct = refl
 
   pub info_bytes : bytes_in (section_list f cu tu) 1 ≡ unit_bytes (kept f.units) 1
@@ -122,7 +114,7 @@ module _ (f : Filing) (cu tu : List ℕ) where
   -- shared codes, one by one
   one_shared : (c : ℕ) (cs : List ℕ) → Every (λ d. bytes_in (section_list f cu tu) d ≡ shared_bytes (string_table f.inputs) f.inputs d) cs → has cs c ≡ true
       → bytes_in (section_list f cu tu) c ≡ shared_bytes (string_table f.inputs) f.inputs c
-  unfolding has any
+  unfolding has
   one_shared c [] e h = absurd (true_false h refl)
   one_shared c (d ∷ cs) e h = ⊎_elim
       (λ (t : eqb c d ≡ true). subst (λ (n : ℕ). bytes_in (section_list f cu tu) n ≡ shared_bytes (string_table f.inputs) f.inputs n) (sym (eqb-true c d t)) (each_head e))

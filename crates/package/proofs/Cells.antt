@@ -1,14 +1,7 @@
 -- The cells of the rows: each names a part of a section that is there, for which the index has a column; so both indexes can be written.
-use mathlib.Core.Path.{◌≡◌, refl, sym, ap, ◌∙◌, subst}
-use mathlib.Core.Logic.{◌⊎◌, inl, inr, ⊎_elim}
-use mathlib.Core.Bool.{true, false}
-use mathlib.Core.List.{List, [], ◌∷◌, ◌++◌}
-use mathlib.Core.Option.{Option, some, none}
-use Prim.Native.Nat.{ℕ, ◌+◌, ◌^◌, ◌<◌, ◌≤◌}
-use native.Mathlib.Omega.{arith}
-use lib.Dec.{eqb}
-use lib.ListN.{length}
-use borrow.Author.Tests.{eqb-true, eqb-false, eq-eqb, ne_eqb}
+use Rattle.std.proofs.Common.{◌≡◌, refl, sym, ap, ◌∙◌, subst, ◌⊎◌, inl, inr, ⊎_elim, true, false, List, [], ◌∷◌, ◌++◌, ℕ, ◌+◌, ◌^◌, ◌<◌, ◌≤◌, arith, eqb, length, eqb-true, eq-eqb, ne_eqb}
+use Rattle.std.specs.Prelude.{Option, Some, None}
+use borrow.Author.Tests.{eqb-false}
 use Rattle.octets.specs.Lists.{has, any}
 use Rattle.octets.proofs.Checks.{known, true_false}
 use Rattle.octets.proofs.Lists.{any_cases}
@@ -35,10 +28,10 @@ use Rattle.package.proofs.ByCode.{info_bytes, types_bytes, shared_bytes_law}
 
 -- ---- columns of the sections that an object can have
 abbrev HasColumn : Encoding → ℕ → Type 0
-HasColumn e c = (column : ℕ) × (column_in (columns_of e.version) c ≡ some column)
+HasColumn e c = (column : ℕ) × (column_in (columns_of e.version) c ≡ Some column)
 
 edition_columns : (e : Encoding) → Every (λ c. (has (wrong_codes e) c ≡ true) ⊎ HasColumn e c) (3 ∷ 4 ∷ 5 ∷ 6 ∷ 7 ∷ 8 ∷ 9 ∷ 10 ∷ [])
-unfolding column_in columns_four columns_five has any
+unfolding column_in columns_four columns_five has
 edition_columns e = ⊎_elim
     (λ (r : (eqb e.version 5 ≡ true) × (form_of e.version ≡ 5) × (columns_of e.version ≡ columns_five)).
     let v = eqb-true e.version 5 r.0 in
@@ -63,7 +56,7 @@ edition_columns e = ⊎_elim
     (forms e.version)
 
 among : {P : ℕ → Type 0} (c : ℕ) (cs : List ℕ) → Every P cs → has cs c ≡ true → P c
-unfolding has any
+unfolding has
 among c [] e h = absurd (true_false h refl)
 among {P} c (d ∷ cs) e h = ⊎_elim (λ (t : eqb c d ≡ true). subst P (sym (eqb-true c d t)) (each_head e)) (λ t. among c cs (each_tail e) t) (any_cases (eqb c) d cs h)
 
@@ -86,16 +79,16 @@ home_column_law e home h v = ⊎_elim
     (forms e.version)
 
 -- ---- the cells of one unit
-pub cell_home : (u : Filed) (at : ℕ) → cells u at u.home ≡ some (record { offset = at; size = length u.bytes })
+pub cell_home : (u : Filed) (at : ℕ) → cells u at u.home ≡ Some (record { offset = at; size = length u.bytes })
 unfolding cells
 cell_home u at = rw (cells, eq-eqb u.home u.home refl)
 
-pub cell_some : (u : Filed) (at c : ℕ) (k : Contribution) → (c ≡ u.home → ⊥) → u.contributions c ≡ some k
-    → cells u at c ≡ some (record { offset = u.bases c + k.offset; size = k.size })
+pub cell_some : (u : Filed) (at c : ℕ) (k : Contribution) → (c ≡ u.home → ⊥) → u.contributions c ≡ Some k
+    → cells u at c ≡ Some (record { offset = u.bases c + k.offset; size = k.size })
 unfolding cells
 cell_some u at c k h q = rw (cells, ne_eqb c u.home h, q)
 
-pub cell_none : (u : Filed) (at c : ℕ) → (c ≡ u.home → ⊥) → u.contributions c ≡ none → cells u at c ≡ none
+pub cell_none : (u : Filed) (at c : ℕ) → (c ≡ u.home → ⊥) → u.contributions c ≡ None → cells u at c ≡ None
 unfolding cells
 cell_none u at c h q = rw (cells, ne_eqb c u.home h, q)
 
@@ -103,7 +96,7 @@ cell_none u at c h q = rw (cells, ne_eqb c u.home h, q)
 pub record CellFacts (e : Encoding) (section : BySection (List ℕ)) (c : ℕ) (k : Contribution) : Type 0 where
   pub within : k.offset + k.size ≤ length (section c)
   pub there : 1 ≤ length (section c)
-  pub column : (column : ℕ) × (column_in (columns_of e.version) c ≡ some column)
+  pub column : (column : ℕ) × (column_in (columns_of e.version) c ≡ Some column)
 
 module _ (e : Encoding) (f : Filing) (cu tu : List ℕ) (facts : FilingFacts e nothing_before f) where
   abbrev section : BySection (List ℕ)
@@ -128,7 +121,7 @@ module _ (e : Encoding) (f : Filing) (cu tu : List ℕ) (facts : FilingFacts e n
       let l : length (section u.home) ≡ length (unit_bytes (xs ++ (u ∷ ys)) u.home) = ap length (home_bytes u g) ∙ ap (λ (z : List Filed). length (unit_bytes z u.home)) q in
       record { within = omega (arith, w, l); there = omega (arith, w, l, g.some); column = home_column_law e u.home g.homes g.four }
 
-  pub cell_shared : (u : Filed) (c : ℕ) (k : Contribution) → Good e u → Lies nothing_before f.inputs u → u.contributions c ≡ some k
+  pub cell_shared : (u : Filed) (c : ℕ) (k : Contribution) → Good e u → Lies nothing_before f.inputs u → u.contributions c ≡ Some k
       → CellFacts e section c (record { offset = u.bases c + k.offset; size = k.size })
   unfolding lengths
   cell_shared u c k g l q =
@@ -143,7 +136,7 @@ module _ (e : Encoding) (f : Filing) (cu tu : List ℕ) (facts : FilingFacts e n
       }
 
   cells_of : (xs : List Filed) (u : Filed) (ys : List Filed) → ks ≡ xs ++ (u ∷ ys) → Good e u → Lies nothing_before f.inputs u
-      → (c : ℕ) (k : Contribution) → (row_at (behind_all nothing_before xs) u).cells c ≡ some k → CellFacts e section c k
+      → (c : ℕ) (k : Contribution) → (row_at (behind_all nothing_before xs) u).cells c ≡ Some k → CellFacts e section c k
   unfolding row_at
   cells_of xs u ys q g l c k h = ⊎_elim
       (λ (t : eqb c u.home ≡ true).
@@ -154,12 +147,12 @@ module _ (e : Encoding) (f : Filing) (cu tu : List ℕ) (facts : FilingFacts e n
       (known (eqb c u.home))
     where
       from : (c ≡ u.home → ⊥) → (o : Option Contribution) → u.contributions c ≡ o → CellFacts e section c k
-      from n (some j) r = subst (CellFacts e section c) (some_inj (sym (cell_some u (behind_all nothing_before xs u.home) c j n r) ∙ h)) (cell_shared u c j g l r)
-      from n none r = some_none (sym (sym (cell_none u (behind_all nothing_before xs u.home) c n r) ∙ h))
+      from n (Some j) r = subst (CellFacts e section c) (some_inj (sym (cell_some u (behind_all nothing_before xs u.home) c j n r) ∙ h)) (cell_shared u c j g l r)
+      from n None r = some_none (sym (sym (cell_none u (behind_all nothing_before xs u.home) c n r) ∙ h))
 
   -- every row
   abbrev RowGood : Row → Type 0
-  RowGood r = (r.identity < 2 ^ 64) × ((r.identity ≡ 0 → ⊥) × ((c : ℕ) (k : Contribution) → r.cells c ≡ some k → CellFacts e section c k))
+  RowGood r = (r.identity < 2 ^ 64) × ((r.identity ≡ 0 → ⊥) × ((c : ℕ) (k : Contribution) → r.cells c ≡ Some k → CellFacts e section c k))
 
   pub kept_good : Every (Good e) ks
   kept_good = each_kept f.units facts.units

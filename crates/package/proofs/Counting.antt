@@ -1,11 +1,5 @@
 -- Repeats and namesakes: one unit more, and both together with the kept units are all units.
-use mathlib.Core.Path.{◌≡◌, refl, ap, ◌∙◌}
-use mathlib.Core.Logic.{⊎_elim}
-use mathlib.Core.Bool.{Bool, true, false}
-use mathlib.Core.List.{List, [], ◌∷◌, ◌++◌}
-use Prim.Native.Nat.{ℕ, ◌+◌, ◌-◌, ◌≤◌}
-use native.Mathlib.Omega.{arith}
-use lib.ListN.{length, length-append}
+use Rattle.std.proofs.Common.{◌≡◌, refl, ap, ◌∙◌, ⊎_elim, Bool, true, false, List, [], ◌∷◌, ◌++◌, ℕ, ◌+◌, ◌-◌, ◌≤◌, arith, length, length-append}
 use Rattle.octets.specs.Lists.{any, same}
 use Rattle.octets.proofs.Checks.{known}
 use Rattle.package.specs.Filing.{Filed, is_under, keep, keep_all, kept, Kind, repeat, namesake, of_kind, count_one, count_from, count_of}

@@ -1,8 +1,5 @@
 -- What holds of each element of a list.
-use mathlib.Core.Path.{◌≡◌}
-use mathlib.Core.Logic.{⊎_elim}
-use mathlib.Core.Bool.{Bool, true, false}
-use mathlib.Core.List.{List, [], ◌∷◌, ◌++◌, map}
+use Rattle.std.proofs.Common.{◌≡◌, ⊎_elim, Bool, true, false, List, [], ◌∷◌, ◌++◌, map}
 use Rattle.octets.specs.Lists.{those}
 use Rattle.octets.proofs.Checks.{known}
 use Rattle.octets.proofs.Lists.{those_keeps, those_skips}
@@ -35,7 +32,6 @@ module _ {A : Type 0} {P : A → Type 0} where
   each_snoc xs y e p = each_append e (also p nothing)
 
   pub each_those : (f : A → Bool) (xs : List A) → Every P xs → Every P (those f xs)
-  unfolding those
   each_those f [] e = nothing
   each_those f (x ∷ xs) e =
       ⊎_elim (λ t. rw (those_keeps f x xs t) (also (each_head e) (each_those f xs (each_tail e)))) (λ t. rw (those_skips f x xs t) (each_those f xs (each_tail e))) (known (f x))
@@ -59,7 +55,6 @@ each_all h (x ∷ xs) = also (h x) (each_all h xs)
 
 -- those that pass a test pass it
 pub each_passed : {A : Type 0} (f : A → Bool) (xs : List A) → Every (λ x. f x ≡ true) (those f xs)
-unfolding those
 each_passed f [] = nothing
 each_passed f (x ∷ xs) =
     ⊎_elim (λ (t : f x ≡ true). rw (those_keeps f x xs t) (also t (each_passed f xs))) (λ (t : f x ≡ false). rw (those_skips f x xs t) (each_passed f xs)) (known (f x))

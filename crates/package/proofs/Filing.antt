@@ -1,19 +1,12 @@
 -- What is known of each unit that was filed, and where its object's sections lie.
-use mathlib.Core.Path.{◌≡◌, refl, sym, ap, ◌∙◌, subst}
-use mathlib.Core.Logic.{◌⊎◌, ◌↔◌, inl, inr, ⊎_elim}
-use mathlib.Core.Bool.{Bool, true, false, not}
-use mathlib.Core.List.{List, [], ◌∷◌, ◌++◌, map}
-use mathlib.Core.Option.{Option, some, none}
-use Prim.Native.Nat.{ℕ, zero, suc, ◌+◌, ◌*◌, ◌/◌, ◌%◌, ◌^◌, ◌<◌, ◌≤◌}
-use native.Mathlib.Nat.{mul-zero, div-add-mod}
-use native.Mathlib.Omega.{arith}
+use Rattle.std.proofs.Common.{◌≡◌, refl, sym, ap, ◌∙◌, subst, ◌⊎◌, ◌↔◌, inl, inr, ⊎_elim, Bool, true, false, not, List, [], ◌∷◌, ◌++◌, map, ℕ, zero, suc, ◌+◌, ◌*◌, ◌/◌, ◌%◌, ◌^◌, ◌<◌, ◌≤◌, mul-zero, arith, eqb, length, drop}
+use Rattle.std.specs.Prelude.{Option, if◌then◌else◌, Some, None, Result, Ok}
+use native.Mathlib.Nat.{div-add-mod}
 use native.Mathlib.Decide.{ℕ_discrete}
-use lib.Dec.{eqb}
-use lib.ListN.{length, drop}
 use lib.Seq.{take-length}
 use borrow.Author.Tests.{not-true}
 use Rattle.octets.specs.Lists.{any, sum, joined}
-use Rattle.octets.specs.Checked.{Check, pass, ◌>>=◌, require}
+use Rattle.octets.specs.Checked.{◌>>=◌, require}
 use Rattle.octets.proofs.Checks.{bind_pass, require_pass, pass_inj, pass_refuse, known}
 use Rattle.octets.proofs.Numbers.{Bytes, bytes_drop, bytes_left}
 use Rattle.bundle.specs.Bundle.{Object}
@@ -39,17 +32,16 @@ use Rattle.package.proofs.Each.{each_head, each_tail, each_append, each_snoc, ea
 use Rattle.package.proofs.Pieces.{InPiece}
 use Rattle.package.proofs.Inputs.{IndexRead, InputFacts, UnitSection, input_facts}
 use Rattle.package.proofs.Units.{reading_of, unit_taken, read_at}
-use Rattle.std.specs.Prelude.{if◌then◌else◌}
 
 -- ---- contributions
 -- each lies in its section, and one to str_offsets in a piece of it
 abbrev pub Contributes : Encoding → Input → BySection (Option Contribution) → Type 0
-Contributes e i g = (c : ℕ) (k : Contribution) → g c ≡ some k → Contributed e.width (lengths i) c k × (c ≡ 6 → (k.size ≡ 0) ⊎ InPiece e i.pieces k)
+Contributes e i g = (c : ℕ) (k : Contribution) → g c ≡ Some k → Contributed e.width (lengths i) c k × (c ≡ 6 → (k.size ≡ 0) ⊎ InPiece e i.pieces k)
 
-contributes_none : (e : Encoding) (i : Input) → Contributes e i (λ c. none)
+contributes_none : (e : Encoding) (i : Input) → Contributes e i (λ c. None)
 contributes_none e i c k q = some_none (sym q)
 
-contributes_skipped : (e : Encoding) (i : Input) (table : ℕ) (g : BySection (Option Contribution)) → skipped table ≡ pass g → Contributes e i g
+contributes_skipped : (e : Encoding) (i : Input) (table : ℕ) (g : BySection (Option Contribution)) → skipped table ≡ Ok g → Contributes e i g
 unfolding skipped
 contributes_skipped e i table g q = ⊎_elim
     (λ (t : eqb table 1 ≡ true). absurd (pass_refuse g 14 (sym (rw (skipped, t) at q))))
@@ -74,17 +66,17 @@ module _ (e : Encoding) (i : Input) (facts : InputFacts e i) where
       inr (in_first p.0 m p.1 lies.within (ap length p.2))
     where
       in_first : (p : Piece) (m : (m : ℕ) × (k.offset ≡ e.width * m)) → i.pieces ≡ p ∷ [] → k.offset + k.size ≤ length (i.bytes 6) → length p.bytes ≡ length (i.bytes 6) → InPiece e i.pieces k
-      in_first p m z w l = record { before = []; piece = p; behind = []; stands = z; entries = m.0; begins = unfold joined in (omega (arith, m.1)); within = omega (arith, m.1, w, l) }
+      in_first p m z w l = record { before = []; piece = p; behind = []; stands = z; entries = m.0; begins = (omega (arith, m.1)); within = omega (arith, m.1, w, l) }
 
   -- a part that a row names is one
-  index_one : (table : ℕ) (x : Index) (c : Contribution) → index_for i table ≡ some x → is_one (named (some x)) c ≡ true → is_one (named i.cu_index ++ named i.tu_index) c ≡ true
+  index_one : (table : ℕ) (x : Index) (c : Contribution) → index_for i table ≡ Some x → is_one (named (Some x)) c ≡ true → is_one (named i.cu_index ++ named i.tu_index) c ≡ true
   unfolding index_for
   index_one table x c t h = ⊎_elim
       (λ (z : eqb table 1 ≡ true). one_left (named i.cu_index) (named i.tu_index) c (ap (λ (o : Option Index). is_one (named o) c) (rw (index_for, z) at t) ∙ h))
       (λ (z : eqb table 1 ≡ false). one_right (named i.cu_index) (named i.tu_index) c (ap (λ (o : Option Index). is_one (named o) c) (rw (index_for, z) at t) ∙ h))
       (known (eqb table 1))
 
-  index_read : (table : ℕ) (x : Index) → index_for i table ≡ some x → IndexRead x
+  index_read : (table : ℕ) (x : Index) → index_for i table ≡ Some x → IndexRead x
   unfolding index_for
   index_read table x t = ⊎_elim
       (λ (z : eqb table 1 ≡ true). facts.cu_read x (rw (index_for, z) at t))
@@ -94,8 +86,8 @@ module _ (e : Encoding) (i : Input) (facts : InputFacts e i) where
   contributes_whole : is_package i ≡ false → Contributes e i (whole_contributions (lengths i))
   contributes_whole n c k q = let r = whole_contributed e.width (lengths i) c k q in (r.0, in_whole c k n r.0)
 
-  contributes_row : (x : Index) (table identity home at size : ℕ) (g : BySection (Option Contribution)) → index_for i table ≡ some x
-      → row_contributions x i.encoding.width (lengths i) identity home at size ≡ pass g → Contributes e i g
+  contributes_row : (x : Index) (table identity home at size : ℕ) (g : BySection (Option Contribution)) → index_for i table ≡ Some x
+      → row_contributions x i.encoding.width (lengths i) identity home at size ≡ Ok g → Contributes e i g
   contributes_row x table identity home at size g t q c k h =
       let d = row_contributed x e.width (lengths i) identity home at size g (ap (λ (d : Encoding). row_contributions x d.width (lengths i) identity home at size) (sym facts.encoded) ∙ q) c k h in
       let cells = row_cells x i.encoding.width (lengths i) identity home at size g q in
@@ -111,17 +103,17 @@ module _ (e : Encoding) (i : Input) (facts : InputFacts e i) where
             (known (is_package i)),
       )
 
-  contributes_filed : (home at : ℕ) (u : UnitRead) (g : BySection (Option Contribution)) → contributions_of i home at u ≡ pass g → Contributes e i g
+  contributes_filed : (home at : ℕ) (u : UnitRead) (g : BySection (Option Contribution)) → contributions_of i home at u ≡ Ok g → Contributes e i g
   unfolding contributions_of
   contributes_filed home at u g q = from (index_for i u.table) refl q
     where
       from : (o : Option Index) → index_for i u.table ≡ o
-          → (elim o as (λ z. Check (BySection (Option Contribution))) [
-            | some x ↦ row_contributions x i.encoding.width (lengths i) u.identity home at u.size
-            | none ↦ require (not (is_package i)) 15 >>= λ _. pass (whole_contributions (lengths i))
-          ]) ≡ pass g → Contributes e i g
-      from (some x) t r = contributes_row x u.table u.identity home at u.size g t r
-      from none t r =
+          → (elim o as (λ z. Result (BySection (Option Contribution)) ℕ) [
+            | Some x ↦ row_contributions x i.encoding.width (lengths i) u.identity home at u.size
+            | None ↦ require (not (is_package i)) 15 >>= λ _. Ok (whole_contributions (lengths i))
+          ]) ≡ Ok g → Contributes e i g
+      from (Some x) t r = contributes_row x u.table u.identity home at u.size g t r
+      from None t r =
           let n = require_pass (not (is_package i)) 15 _ g r in
           subst (Contributes e i) (pass_inj n.1) (contributes_whole (not-true (is_package i) n.0))
 
@@ -144,7 +136,7 @@ pub record Of (e : Encoding) (i : Input) (bases : BySection ℕ) (u : Filed) : T
 
 module _ (e : Encoding) (i : Input) (facts : InputFacts e i) (bases : BySection ℕ) (earlier : List Filed) where
   pub unit_of : (here : List Filed) (home at : ℕ) (s : List ℕ) (u : Filed) → Bytes s → (home ≡ 1) ⊎ (home ≡ 2) → (home ≡ 2 → e.version ≡ 5 → ⊥)
-      → unit_at i bases earlier here home at s ≡ pass u → Of e i bases u
+      → unit_at i bases earlier here home at s ≡ Ok u → Of e i bases u
   unit_of here home at s u h t v q =
       let k = unit_taken i bases earlier here home at s u q in
       let own = u.input.encoding in
@@ -176,14 +168,14 @@ module _ (e : Encoding) (i : Input) (facts : InputFacts e i) (bases : BySection 
       }
     where
       from : (r : UnitRead) (g : BySection (Option Contribution))
-          → (if any (is_under r.table r.identity) (earlier ++ here) then skipped r.table else contributions_of i home at r) ≡ pass g → Contributes e i g
+          → (if any (is_under r.table r.identity) (earlier ++ here) then skipped r.table else contributions_of i home at r) ≡ Ok g → Contributes e i g
       from r g p = ⊎_elim
           (λ (z : any (is_under r.table r.identity) (earlier ++ here) ≡ true). contributes_skipped e i r.table g (rw z at p))
           (λ (z : any (is_under r.table r.identity) (earlier ++ here) ≡ false). contributes_filed e i facts home at r g (rw z at p))
           (known (any (is_under r.table r.identity) (earlier ++ here)))
 
   units_from_law : (home : ℕ) → (home ≡ 1) ⊎ (home ≡ 2) → (home ≡ 2 → e.version ≡ 5 → ⊥) → (k : ℕ) (here : List Filed) (at : ℕ) (s : List ℕ) (us : List Filed)
-      → Bytes s → Every (Of e i bases) here → units_from k i bases earlier here home at s ≡ pass us → Every (Of e i bases) us
+      → Bytes s → Every (Of e i bases) here → units_from k i bases earlier here home at s ≡ Ok us → Every (Of e i bases) us
   unfolding units_from
   units_from_law home t v zero here at s us h g q = absurd (pass_refuse us 11 (sym q))
   units_from_law home t v (suc k) here at [] us h g q = subst (Every (Of e i bases)) (pass_inj q) g
@@ -192,7 +184,7 @@ module _ (e : Encoding) (i : Input) (facts : InputFacts e i) (bases : BySection 
       units_from_law home t v k (here ++ (r.0 ∷ [])) (at + length r.0.bytes) (drop (length r.0.bytes) (b ∷ s)) us (bytes_drop (length r.0.bytes) (b ∷ s) h)
       (each_snoc here r.0 g (unit_of here home at (b ∷ s) r.0 h t v r.1)) r.2
 
-  pub units_in_law : (ss : List Section) (here us : List Filed) → Every (UnitSection e) ss → Every (Of e i bases) here → units_in i bases earlier here ss ≡ pass us → Every (Of e i bases) us
+  pub units_in_law : (ss : List Section) (here us : List Filed) → Every (UnitSection e) ss → Every (Of e i bases) here → units_in i bases earlier here ss ≡ Ok us → Every (Of e i bases) us
   unfolding units_in
   units_in_law [] here us f g q = subst (Every (Of e i bases)) (pass_inj q) g
   units_in_law (s ∷ ss) here us f g q =
@@ -231,7 +223,7 @@ lies_later i base is u l = record {
 }
 
 pub filing_facts : (b : List ℕ) (big : Bool) (first : ℕ) → Bytes b → (base : BySection ℕ) (earlier : List Filed) (os : List Object) (f : Filing)
-    → filing_from b big first base earlier os ≡ pass f → FilingFacts (encoding_of big first) base f
+    → filing_from b big first base earlier os ≡ Ok f → FilingFacts (encoding_of big first) base f
 unfolding filing_from
 filing_facts b big first h base earlier [] f q = subst (FilingFacts (encoding_of big first) base) (pass_inj q) (record { inputs = nothing; units = nothing; lie = nothing })
 filing_facts b big first h base earlier (o ∷ os) f q =

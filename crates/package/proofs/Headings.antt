@@ -1,13 +1,8 @@
 -- The pieces of a str_offsets that passed are those that their headers state, so that code finds them again without an index.
-use mathlib.Core.Path.{◌≡◌, refl, sym, ap, ◌∙◌, subst}
-use mathlib.Core.Bool.{true}
-use mathlib.Core.List.{List, [], ◌∷◌, ◌++◌, append-nil}
-use Prim.Native.Nat.{ℕ, ◌+◌, ◌≤◌}
-use native.Mathlib.Omega.{arith}
-use lib.ListN.{length, take}
-use lib.Seq.{take_at, take-length}
+use Rattle.std.proofs.Common.{◌≡◌, refl, sym, ap, ◌∙◌, subst, true, List, [], ◌∷◌, ◌++◌, append-nil, ℕ, ◌+◌, ◌≤◌, arith, length, take, take_at}
+use lib.Seq.{take-length}
 use Rattle.octets.specs.Lists.{joined}
-use Rattle.octets.specs.Checked.{pass}
+use Rattle.std.specs.Prelude.{Ok}
 use Rattle.octets.proofs.Checks.{then_pass}
 use Rattle.bundle.specs.Encoding.{Encoding}
 use Rattle.bundle.specs.InitialLength.{length_field}
@@ -31,7 +26,7 @@ whole_size e p rest v h =
 
 -- ---- all of them, in version 5
 headed_all : (e : Encoding) (str : List ℕ) (ps : List Piece) → Sound e → e.version ≡ 5 → Every (PieceFacts e str) ps → Headed e (joined (bytes_of ps)) (bytes_of ps)
-unfolding Headed joined
+unfolding Headed
 headed_all e str [] ok v f = refl
 headed_all e str (p ∷ ps) ok v f =
     let w = (each_head f).whole in (
@@ -56,7 +51,7 @@ unfolding Headed
 none_headed e = refl
 
 -- ---- their strings
-pub strings_all : (e : Encoding) (str : List ℕ) (ps : List Piece) → Every (PieceFacts e str) ps → strings_of_all e str (bytes_of ps) ≡ pass (used_in ps)
+pub strings_all : (e : Encoding) (str : List ℕ) (ps : List Piece) → Every (PieceFacts e str) ps → strings_of_all e str (bytes_of ps) ≡ Ok (used_in ps)
 unfolding strings_of_all used_in
 strings_all e str [] f = refl
 strings_all e str (p ∷ ps) f =

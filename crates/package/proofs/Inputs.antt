@@ -1,17 +1,9 @@
 -- What is known of an object that passed 4 to 10 and 34.
-use mathlib.Core.Path.{◌≡◌, refl, sym, ap, ap₂, ◌∙◌, subst}
-use mathlib.Core.Logic.{◌⊎◌, inl, inr, ⊎_elim}
-use mathlib.Core.Bool.{Bool, true, false, not, ◌&&◌, ◌||◌}
-use mathlib.Core.List.{List, [], ◌∷◌, ◌++◌}
-use mathlib.Core.Option.{Option, some, none}
-use Prim.Native.Nat.{ℕ, ◌≤◌}
-use native.Mathlib.Omega.{arith}
-use lib.Dec.{eqb}
-use lib.ListN.{length}
-use borrow.Author.Tests.{eqb-true, eqb-false, eq-eqb, ne_eqb, leb-false, not-true}
+use Rattle.std.proofs.Common.{◌≡◌, refl, sym, ap, ap₂, ◌∙◌, subst, ◌⊎◌, inl, inr, ⊎_elim, Bool, true, false, not, ◌&&◌, ◌||◌, List, [], ◌∷◌, ◌++◌, ℕ, ◌≤◌, arith, eqb, length, eqb-true, eq-eqb, ne_eqb, leb-false}
+use Rattle.std.specs.Prelude.{Option, Some, None, Ok}
+use borrow.Author.Tests.{eqb-false, not-true}
 use Rattle.octets.specs.Octets.{part}
 use Rattle.octets.specs.Lists.{all, any, those, has}
-use Rattle.octets.specs.Checked.{pass}
 use Rattle.octets.proofs.Checks.{bind_pass, require_pass, pass_inj, known, true_false, and_left, or_cases}
 use Rattle.octets.proofs.Lists.{those_keeps, those_skips}
 use Rattle.octets.proofs.Numbers.{Bytes, bytes_none, bytes_part}
@@ -41,7 +33,7 @@ parts_later : (p : Part) (ps : List Part) (c : ℕ) → eqb p.code c ≡ false �
 unfolding count parts_of
 parts_later p ps c e = ap length (those_skips (λ (q : Part). eqb q.code c) p ps e)
 
-pub first_absent : (ps : List Part) (c : ℕ) → count ps c ≡ 0 → first_part ps c ≡ none
+pub first_absent : (ps : List Part) (c : ℕ) → count ps c ≡ 0 → first_part ps c ≡ None
 unfolding first_part
 first_absent [] c e = refl
 first_absent (p ∷ ps) c e = ⊎_elim
@@ -68,9 +60,9 @@ pub bytes_body : (b : List ℕ) (ps : List Part) (c : ℕ) → Bytes b → Bytes
 unfolding body
 bytes_body b ps c h = from (first_part ps c)
   where
-    from : (o : Option Part) → Bytes (elim o as (λ q. List ℕ) [ some p ↦ part b p.start p.size | none ↦ [] ])
-    from (some p) = bytes_part b p.start p.size h
-    from none = bytes_none
+    from : (o : Option Part) → Bytes (elim o as (λ q. List ℕ) [ Some p ↦ part b p.start p.size | None ↦ [] ])
+    from (Some p) = bytes_part b p.start p.size h
+    from None = bytes_none
 
 -- ---- 6
 pub no_wrong_edition : (e : Encoding) (ps : List Part) (c : ℕ) → edition_good e ps ≡ true → has (wrong_codes e) c ≡ true → present ps c ≡ false
@@ -97,7 +89,7 @@ pub record UnitSection (e : Encoding) (s : Section) : Type 0 where
   pub are_bytes : Bytes s.bytes
 
 unit_codes : (e : Encoding) (ps : List Part) → edition_good e ps ≡ true → Every (λ p. p.code ≡ 2 → e.version ≡ 5 → ⊥) ps
-unfolding has any
+unfolding has
 unit_codes e ps h = ⊎_elim
     (λ (t : eqb e.version 5 ≡ true). each_so (λ p n z v. eqb-false p.code 2 n z)
     (each_absent ps 2 (absent_count ps 2 (no_wrong_edition e ps 2 h (wrong_five e 2 (eqb-true e.version 5 t) refl)))))
@@ -119,7 +111,7 @@ unit_sections_law b e ps h g =
 
 -- ---- 10
 -- it is there where the section is
-pub index_there : (e : Encoding) (ps : List Part) (bytes : BySection (List ℕ)) (c : ℕ) (o : Option Index) → input_index e ps bytes c ≡ pass o → is_some o ≡ present ps c
+pub index_there : (e : Encoding) (ps : List Part) (bytes : BySection (List ℕ)) (c : ℕ) (o : Option Index) → input_index e ps bytes c ≡ Ok o → is_some o ≡ present ps c
 unfolding input_index is_some
 index_there e ps bytes c o q = ⊎_elim
     (λ (t : present ps c ≡ true).
@@ -132,7 +124,7 @@ index_there e ps bytes c o q = ⊎_elim
 -- ---- all of it
 -- an index that was read from some bytes
 abbrev pub IndexRead : Index → Type 0
-IndexRead x = (big : Bool) × (s : List ℕ) × (index_of big s ≡ pass x)
+IndexRead x = (big : Bool) × (s : List ℕ) × (index_of big s ≡ Ok x)
 
 -- version 5 with an index: a part that a row names is a piece; otherwise a section that is not empty is one
 pub record Pieced (e : Encoding) (i : Input) : Type 0 where
@@ -146,30 +138,30 @@ pub record InputFacts (e : Encoding) (i : Input) : Type 0 where
   pub are_bytes : (c : ℕ) → Bytes (i.bytes c)
   -- sections of the wrong edition are empty
   pub edition : (c : ℕ) → has (wrong_codes e) c ≡ true → i.bytes c ≡ []
-  pub cu_read : (x : Index) → i.cu_index ≡ some x → IndexRead x
-  pub tu_read : (x : Index) → i.tu_index ≡ some x → IndexRead x
+  pub cu_read : (x : Index) → i.cu_index ≡ Some x → IndexRead x
+  pub tu_read : (x : Index) → i.tu_index ≡ Some x → IndexRead x
   pub sections : Every (UnitSection e) i.units
   pub strings : Pieced e i
 
-pub index_read : (e : Encoding) (ps : List Part) (bytes : BySection (List ℕ)) (c : ℕ) (o : Option Index) → input_index e ps bytes c ≡ pass o
-    → (x : Index) → o ≡ some x → IndexRead x
+pub index_read : (e : Encoding) (ps : List Part) (bytes : BySection (List ℕ)) (c : ℕ) (o : Option Index) → input_index e ps bytes c ≡ Ok o
+    → (x : Index) → o ≡ Some x → IndexRead x
 unfolding input_index
 index_read e ps bytes c o q x h = ⊎_elim
     (λ (t : present ps c ≡ true).
     let r = bind_pass (index_of e.big (bytes c)) _ o (rw (input_index, t) at q) in
     let v = require_pass (eqb r.0.version (form_of e)) 10 _ o r.2 in
-    (e.big, bytes c, r.1 ∙ ap pass (some_inj (pass_inj v.1 ∙ h))))
+    (e.big, bytes c, r.1 ∙ ap Ok (some_inj (pass_inj v.1 ∙ h))))
     (λ (t : present ps c ≡ false). some_none (sym h ∙ sym (pass_inj (rw (input_index, t) at q))))
     (known (present ps c))
 
 -- ---- what was opened
 pub record OpenedParts (e : Encoding) (ps : List Part) (bytes : BySection (List ℕ)) (t : Opened) : Type 0 where
-  pub cu_index : input_index e ps bytes 12 ≡ pass t.cu_index
-  pub tu_index : input_index e ps bytes 13 ≡ pass t.tu_index
-  pub whole : is_packed e ps ≡ false → whole_pieces e ps bytes ≡ pass t.pieces
-  pub tiled : is_packed e ps ≡ true → tiled_pieces e bytes t.cu_index t.tu_index ≡ pass t.pieces
+  pub cu_index : input_index e ps bytes 12 ≡ Ok t.cu_index
+  pub tu_index : input_index e ps bytes 13 ≡ Ok t.tu_index
+  pub whole : is_packed e ps ≡ false → whole_pieces e ps bytes ≡ Ok t.pieces
+  pub tiled : is_packed e ps ≡ true → tiled_pieces e bytes t.cu_index t.tu_index ≡ Ok t.pieces
 
-pub opened_parts : (e : Encoding) (ps : List Part) (bytes : BySection (List ℕ)) (t : Opened) → opened e ps bytes ≡ pass t → OpenedParts e ps bytes t
+pub opened_parts : (e : Encoding) (ps : List Part) (bytes : BySection (List ℕ)) (t : Opened) → opened e ps bytes ≡ Ok t → OpenedParts e ps bytes t
 unfolding opened opened_whole opened_tiled
 opened_parts e ps bytes t q = ⊎_elim
     (λ (z : is_packed e ps ≡ true).
@@ -223,10 +215,10 @@ pub record InputParts (b : List ℕ) (big : Bool) (first : ℕ) (o : Object) (i 
   pub good : encoding_good (encoding_of big o.word) ≡ true
   pub word : o.word ≡ first
   pub edition : edition_good (encoding_of big o.word) o.parts ≡ true
-  pub opens : opened (encoding_of big o.word) o.parts (body b o.parts) ≡ pass (opened_of i)
+  pub opens : opened (encoding_of big o.word) o.parts (body b o.parts) ≡ Ok (opened_of i)
   pub is : i ≡ input_from b (encoding_of big o.word) o.parts (opened_of i)
 
-pub input_parts : (b : List ℕ) (big : Bool) (first : ℕ) (o : Object) (i : Input) → input_of b big first o ≡ pass i → InputParts b big first o i
+pub input_parts : (b : List ℕ) (big : Bool) (first : ℕ) (o : Object) (i : Input) → input_of b big first o ≡ Ok i → InputParts b big first o i
 unfolding input_of
 input_parts b big first o i q =
     let e = encoding_of big o.word in
@@ -241,17 +233,17 @@ input_parts b big first o i q =
 
 -- its indexes
 pub input_cu : (b : List ℕ) (big : Bool) (first : ℕ) (o : Object) (i : Input) → InputParts b big first o i
-    → input_index (encoding_of big o.word) o.parts (body b o.parts) 12 ≡ pass i.cu_index
+    → input_index (encoding_of big o.word) o.parts (body b o.parts) 12 ≡ Ok i.cu_index
 input_cu b big first o i p = (opened_parts (encoding_of big o.word) o.parts (body b o.parts) (opened_of i) p.opens).cu_index
 
 pub input_tu : (b : List ℕ) (big : Bool) (first : ℕ) (o : Object) (i : Input) → InputParts b big first o i
-    → input_index (encoding_of big o.word) o.parts (body b o.parts) 13 ≡ pass i.tu_index
+    → input_index (encoding_of big o.word) o.parts (body b o.parts) 13 ≡ Ok i.tu_index
 input_tu b big first o i p = (opened_parts (encoding_of big o.word) o.parts (body b o.parts) (opened_of i) p.opens).tu_index
 
 pub input_bytes : (b : List ℕ) (big : Bool) (first : ℕ) (o : Object) (i : Input) → InputParts b big first o i → (c : ℕ) → i.bytes c ≡ body b o.parts c
 input_bytes b big first o i p c = ap (λ (j : Input). j.bytes c) p.is
 
-pub input_facts : (b : List ℕ) (big : Bool) (first : ℕ) (o : Object) (i : Input) → Bytes b → input_of b big first o ≡ pass i → InputFacts (encoding_of big first) i
+pub input_facts : (b : List ℕ) (big : Bool) (first : ℕ) (o : Object) (i : Input) → Bytes b → input_of b big first o ≡ Ok i → InputFacts (encoding_of big first) i
 input_facts b big first o i h q =
     let p = input_parts b big first o i q in
     let e = encoding_of big o.word in

@@ -1,14 +1,7 @@
 -- The kept units: the first of each table and identity, and nothing else.
-use mathlib.Core.Path.{◌≡◌, refl, sym, ap, ◌∙◌, subst}
-use mathlib.Core.Logic.{◌⊎◌, inl, inr, ⊎_elim}
-use mathlib.Core.Bool.{true, false}
-use mathlib.Core.List.{List, [], ◌∷◌, ◌++◌, map, append_assoc, append-nil}
-use mathlib.Core.Option.{Option, some, none}
-use Prim.Native.Nat.{ℕ, ◌+◌, ◌≤◌}
-use native.Mathlib.Omega.{arith}
-use lib.Dec.{eqb}
-use lib.ListN.{length, length-append}
-use borrow.Author.Tests.{eqb-true, eqb-false, eq-eqb, ne_eqb}
+use Rattle.std.proofs.Common.{◌≡◌, refl, sym, ap, ◌∙◌, subst, ◌⊎◌, inl, inr, ⊎_elim, true, false, List, [], ◌∷◌, ◌++◌, map, append_assoc, append-nil, ℕ, ◌+◌, ◌≤◌, arith, eqb, length, length-append, eqb-true, eq-eqb, ne_eqb}
+use Rattle.std.specs.Prelude.{Option, Some, None}
+use borrow.Author.Tests.{eqb-false}
 use Rattle.octets.specs.Lists.{any, those, has, distinct}
 use Rattle.octets.proofs.Checks.{known, true_false, and_both, and_left, and_right, not_left, not_right}
 use Rattle.octets.proofs.Lists.{any_cons, any_stops, those_append, those_keeps, those_skips}
@@ -19,7 +12,7 @@ use Rattle.bundle.proofs.Every.{Every, nothing}
 use Rattle.package.proofs.Each.{each_snoc, each_head, each_tail}
 
 -- ---- the first unit of a table and an identity
-pub first_here : (t x : ℕ) (u : Filed) (us : List Filed) → is_under t x u ≡ true → first_under t x (u ∷ us) ≡ some u
+pub first_here : (t x : ℕ) (u : Filed) (us : List Filed) → is_under t x u ≡ true → first_under t x (u ∷ us) ≡ Some u
 unfolding first_under
 first_here t x u us e = rw (first_under, e)
 
@@ -56,7 +49,6 @@ first_behind t x (u ∷ us) vs e = ⊎_elim
     (known (is_under t x u))
 
 pub first_before : (t x : ℕ) (us vs : List Filed) → any (is_under t x) us ≡ true → first_under t x (us ++ vs) ≡ first_under t x us
-unfolding any
 first_before t x [] vs e = absurd (true_false e refl)
 first_before t x (u ∷ us) vs e = ⊎_elim
     (λ h. first_here t x u (us ++ vs) h ∙ sym (first_here t x u us h))
@@ -64,7 +56,7 @@ first_before t x (u ∷ us) vs e = ⊎_elim
     (known (is_under t x u))
 
 -- where there is none
-pub first_none : (t x : ℕ) (us : List Filed) → any (is_under t x) us ≡ false → first_under t x us ≡ none
+pub first_none : (t x : ℕ) (us : List Filed) → any (is_under t x) us ≡ false → first_under t x us ≡ None
 unfolding first_under
 first_none t x [] e = refl
 first_none t x (u ∷ us) e = ⊎_elim
@@ -90,18 +82,16 @@ first_next t x v us u h f = record {
 }
 
 first_front : (t x : ℕ) (us : List Filed) (u : Filed) → is_under t x u ≡ true → First t x (u ∷ us) u
-unfolding any
 first_front t x us u h = record { before = []; behind = us; stands = refl; under = h; alone = refl }
 
 pub first_stands : (t x : ℕ) (us : List Filed) → any (is_under t x) us ≡ true → (u : Filed) × First t x us u
-unfolding any
 first_stands t x [] e = absurd (true_false e refl)
 first_stands t x (v ∷ us) e = ⊎_elim
     (λ h. (v, first_front t x us v h))
     (λ h. let r = first_stands t x us (sym (any_cons (is_under t x) v us h) ∙ e) in (r.0, first_next t x v us r.0 h r.1))
     (known (is_under t x v))
 
-pub first_is : (t x : ℕ) (us : List Filed) (u : Filed) → First t x us u → first_under t x us ≡ some u
+pub first_is : (t x : ℕ) (us : List Filed) (u : Filed) → First t x us u → first_under t x us ≡ Some u
 first_is t x us u f =
     ap (first_under t x) f.stands ∙ first_behind t x f.before (u ∷ f.behind) f.alone ∙ first_here t x u f.behind f.under
 
@@ -161,7 +151,7 @@ any_kept t x us = ⊎_elim
     (λ h. ⊎_elim (λ g. clash (first_is t x us _ (first_stands t x us g).1) (sym (first_kept t x us) ∙ first_none t x (kept us) h)) (λ g. h ∙ sym g) (known (any (is_under t x) us)))
     (known (any (is_under t x) (kept us)))
   where
-    clash : {o : Option Filed} {u : Filed} {P : Type 0} → o ≡ some u → o ≡ none → P
+    clash : {o : Option Filed} {u : Filed} {P : Type 0} → o ≡ Some u → o ≡ None → P
     clash p q = let z : ◌≡◌ {A = ℕ} 0 1 = cc in absurd (omega arith)
 
 keep_all_le : (ks us : List Filed) → length (keep_all ks us) ≤ length ks + length us
@@ -210,16 +200,16 @@ unfolding identities_in
 identities_later t u us e = ap (map (λ (v : Filed). v.identity)) (those_skips (λ (v : Filed). eqb v.table t) u us (ne_eqb _ _ e))
 
 one : (t : ℕ) (u : Filed) → u.table ≡ t → identities_in t (u ∷ []) ≡ u.identity ∷ []
-unfolding identities_in those
+unfolding identities_in
 one t u e = identities_here t u [] e
 
 other : (t : ℕ) (u : Filed) → (u.table ≡ t → ⊥) → identities_in t (u ∷ []) ≡ []
-unfolding identities_in those
+unfolding identities_in
 other t u e = identities_later t u [] e
 
 -- an identity stands among those of a table exactly where a unit is under it
 pub has_identity : (t x : ℕ) (us : List Filed) → has (identities_in t us) x ≡ any (is_under t x) us
-unfolding has any identities_in those
+unfolding has identities_in
 has_identity t x [] = refl
 has_identity t x (u ∷ us) = ⊎_elim
     (λ h. ap (λ (l : List ℕ). has l x) (identities_here t u us (eqb-true _ _ h)) ∙ ⊎_elim
@@ -251,14 +241,14 @@ distinct_keep_all t ks [] e = e
 distinct_keep_all t ks (u ∷ us) e = distinct_keep_all t (keep ks u) us (distinct_keep t ks u e)
 
 pub distinct_kept : (t : ℕ) (us : List Filed) → distinct (identities_in t (kept us)) ≡ true
-unfolding kept distinct identities_in those
+unfolding kept distinct identities_in
 distinct_kept t us = distinct_keep_all t [] us refl
 
 -- the first of all stands among the kept ones, as the first there too
 pub kept_first : (t x : ℕ) (us : List Filed) (u : Filed) → First t x us u → First t x (kept us) u
 kept_first t x us u f =
     let r = first_stands t x (kept us) (any_kept t x us ∙ first_any t x us u f) in
-    let same : some r.0 ≡ some u = sym (first_is t x (kept us) r.0 r.1) ∙ first_kept t x us ∙ first_is t x us u f in
+    let same : Some r.0 ≡ Some u = sym (first_is t x (kept us) r.0 r.1) ∙ first_kept t x us ∙ first_is t x us u f in
     let z : r.0 ≡ u = cc in
     subst (First t x (kept us)) z r.1
 

@@ -1,13 +1,7 @@
 -- Refusals of a unit have numbers from 1 to 16: not 0, which code keeps for what passes, and not 17.
-use mathlib.Core.Path.{◌≡◌, refl}
-use mathlib.Core.Bool.{◌||◌}
-use mathlib.Core.List.{List, [], ◌∷◌, ◌++◌}
-use mathlib.Core.Option.{Option, some, none}
-use Prim.Native.Nat.{ℕ, ◌+◌}
-use lib.Dec.{eqb}
-use lib.ListN.{take, get_or}
+use Rattle.std.proofs.Common.{◌≡◌, refl, ◌||◌, List, [], ◌∷◌, ◌++◌, ℕ, ◌+◌, eqb, take, get_or}
+use Rattle.std.specs.Prelude.{Option, Some, None, Result}
 use Rattle.octets.specs.Lists.{any}
-use Rattle.octets.specs.Checked.{Check}
 use Rattle.octets.proofs.Refusals.{Between, between_pass as passes, between_refuse as refuses, between_require as requires, between_bind as binds, between_choice as chooses, between_only as only}
 use Rattle.bundle.specs.Encoding.{Encoding}
 use Rattle.bundle.specs.InitialLength.{length_field}
@@ -19,7 +13,7 @@ use Rattle.index.specs.Rows.{BySection, row_of, row_contributions, naming, the_o
 use Rattle.package.specs.Input.{Input}
 use Rattle.package.specs.Filing.{Filed, is_under, index_for, index_by_place, abbreviations_for, contributions_of, skipped, unit_at}
 
-abbrev pub Numbered : {A : Type 0} → Check A → Type 0
+abbrev pub Numbered : {A : Type 0} → Result A ℕ → Type 0
 Numbered m = Between 1 16 m
 
 -- ---- the unit
@@ -43,7 +37,7 @@ sized : (e : Encoding) (s : List ℕ) → Numbered (unit_size e s)
 unfolding unit_size
 sized e s = binds _ _ (requires _ 11 refl) (λ _. binds _ _ (requires _ 11 refl) (λ _. passes _))
 
-read_numbered : (e : Encoding) (home : ℕ) (abbreviations : ℕ → Check (List ℕ)) → ((size : ℕ) → Numbered (abbreviations size)) → (s : List ℕ) → Numbered (unit_by e home abbreviations s)
+read_numbered : (e : Encoding) (home : ℕ) (abbreviations : ℕ → Result (List ℕ) ℕ) → ((size : ℕ) → Numbered (abbreviations size)) → (s : List ℕ) → Numbered (unit_by e home abbreviations s)
 unfolding unit_by
 read_numbered e home abbreviations f s =
     binds _ _ (sized e s) (λ size. binds _ _ (requires _ 11 refl) (λ _. binds _ _ (requires _ 11 refl) (λ _. binds _ _ (requires _ 11 refl) (λ _. binds _ _ (requires _ 11 refl) (λ _.
@@ -60,8 +54,8 @@ unfolding contributions_of row_contributions
 contributed i home at u = go (index_for i u.table) refl
   where
     go : (o : Option Index) → index_for i u.table ≡ o → Numbered (contributions_of i home at u)
-    go (some x) e = rw (contributions_of, e) (binds _ _ (row x _) (λ r. binds _ _ (requires _ 15 refl) (λ _. binds _ _ (requires _ 16 refl) (λ _. binds _ _ (requires _ 16 refl) (λ _. passes _)))))
-    go none e = rw (contributions_of, e) (binds _ _ (requires _ 15 refl) (λ _. passes _))
+    go (Some x) e = rw (contributions_of, e) (binds _ _ (row x _) (λ r. binds _ _ (requires _ 15 refl) (λ _. binds _ _ (requires _ 16 refl) (λ _. binds _ _ (requires _ 16 refl) (λ _. passes _)))))
+    go None e = rw (contributions_of, e) (binds _ _ (requires _ 15 refl) (λ _. passes _))
 
 -- ---- its abbreviations
 one : (rs : List ℕ) → Numbered (the_one rs)
@@ -76,16 +70,16 @@ part_of x row [] = passes _
 part_of x row (b ∷ s) = go (cell_of x row 3) refl
   where
     go : (o : Option Contribution) → cell_of x row 3 ≡ o → Numbered (abbrev_part x row (b ∷ s))
-    go (some c) e = rw (abbrev_part, e) (binds _ _ (requires _ 16 refl) (λ _. passes _))
-    go none e = rw (abbrev_part, e) (refuses 15 refl)
+    go (Some c) e = rw (abbrev_part, e) (binds _ _ (requires _ 16 refl) (λ _. passes _))
+    go None e = rw (abbrev_part, e) (refuses 15 refl)
 
 abbreviations : (i : Input) (home at size : ℕ) → Numbered (abbreviations_for i home at size)
 unfolding abbreviations_for
 abbreviations i home at size = go (index_by_place i home) refl
   where
     go : (o : Option Index) → index_by_place i home ≡ o → Numbered (abbreviations_for i home at size)
-    go (some x) e = rw (abbreviations_for, e) (binds _ _ (one (naming x at size)) (λ row. part_of x row (i.bytes 3)))
-    go none e = rw (abbreviations_for, e) (passes _)
+    go (Some x) e = rw (abbreviations_for, e) (binds _ _ (one (naming x at size)) (λ row. part_of x row (i.bytes 3)))
+    go None e = rw (abbreviations_for, e) (passes _)
 
 again : (table : ℕ) → Numbered (skipped table)
 unfolding skipped

@@ -1,9 +1,6 @@
 -- Refusals of the walks over units and sections have numbers from 1 to 16; and the walk over sections, section by section.
-use mathlib.Core.Path.{◌≡◌, refl}
-use mathlib.Core.List.{List, [], ◌∷◌, ◌++◌}
-use Prim.Native.Nat.{ℕ, zero, suc, ◌+◌}
-use lib.ListN.{length, drop}
-use Rattle.octets.specs.Checked.{pass, refuse}
+use Rattle.std.proofs.Common.{◌≡◌, refl, List, [], ◌∷◌, ◌++◌, ℕ, zero, suc, ◌+◌, length, drop}
+use Rattle.std.specs.Prelude.{Ok, Err}
 use Rattle.octets.proofs.Checks.{then_pass, then_refuse}
 use Rattle.octets.proofs.Refusals.{between_pass as passes, between_refuse as refuses, between_bind as binds}
 use Rattle.bundle.specs.Written.{Section}
@@ -26,16 +23,16 @@ module _ (i : Input) (bases : BySection ℕ) (earlier : List Filed) where
   sections_numbered here (s ∷ ss) = binds _ _ (units_numbered (suc (length s.bytes)) here s.code 0 s.bytes) (λ us. sections_numbered us ss)
 
   -- ---- the first section
-  pub section_none : (here : List Filed) → units_in i bases earlier here [] ≡ pass here
+  pub section_none : (here : List Filed) → units_in i bases earlier here [] ≡ Ok here
   unfolding units_in
   section_none here = refl
 
-  pub section_filed : (here us : List Filed) (s : Section) (ss : List Section) → units_from (suc (length s.bytes)) i bases earlier here s.code 0 s.bytes ≡ pass us
+  pub section_filed : (here us : List Filed) (s : Section) (ss : List Section) → units_from (suc (length s.bytes)) i bases earlier here s.code 0 s.bytes ≡ Ok us
       → units_in i bases earlier here (s ∷ ss) ≡ units_in i bases earlier us ss
   unfolding units_in
   section_filed here us s ss e = then_pass _ _ us e
 
-  pub section_refused : (here : List Filed) (s : Section) (ss : List Section) (m : ℕ) → units_from (suc (length s.bytes)) i bases earlier here s.code 0 s.bytes ≡ refuse m
-      → units_in i bases earlier here (s ∷ ss) ≡ refuse m
+  pub section_refused : (here : List Filed) (s : Section) (ss : List Section) (m : ℕ) → units_from (suc (length s.bytes)) i bases earlier here s.code 0 s.bytes ≡ Err m
+      → units_in i bases earlier here (s ∷ ss) ≡ Err m
   unfolding units_in
   section_refused here s ss m e = then_refuse _ _ m e

@@ -1,14 +1,8 @@
 -- The walk over objects: what is filed, and the rest. Refusals of an object, and of all of them, have numbers from 1 to 16, or 34.
-use mathlib.Core.Path.{◌≡◌, refl, sym, ap, ap₂, ◌∙◌}
-use mathlib.Core.Logic.{◌⊎◌, inl, inr, ⊎_elim}
-use mathlib.Core.Bool.{Bool, true, false, ◌&&◌}
-use mathlib.Core.List.{List, [], ◌∷◌, ◌++◌, append-nil, append_assoc}
-use mathlib.Core.Option.{Option}
-use Prim.Native.Nat.{ℕ, ◌≤◌}
-use native.Mathlib.Omega.{arith}
-use lib.Dec.{eqb, leb}
+use Rattle.std.proofs.Common.{◌≡◌, refl, sym, ap, ap₂, ◌∙◌, ◌⊎◌, inl, inr, ⊎_elim, Bool, true, false, ◌&&◌, List, [], ◌∷◌, ◌++◌, append-nil, append_assoc, ℕ, ◌≤◌, arith, eqb, leb}
+use Rattle.std.specs.Prelude.{Option, if◌then◌else◌, Result, Ok, Err}
 use Rattle.numbers.specs.Refusals.{bad_parts}
-use Rattle.octets.specs.Checked.{Check, pass, refuse, ◌>>=◌, require}
+use Rattle.octets.specs.Checked.{◌>>=◌, require}
 use Rattle.octets.proofs.Checks.{then_pass, then_refuse, bind_refuse, pass_refuse}
 use Rattle.octets.proofs.Refusals.{Only, between_pass as passes, between_refuse as refuses, between_require as requires, between_bind as binds, between_choice as chooses}
 use Rattle.bundle.specs.Bundle.{Part, Object, Bundle}
@@ -22,30 +16,29 @@ use Rattle.package.specs.Input.{Input, present, input_index, whole_pieces, is_pa
 use Rattle.package.specs.Filing.{Filed, Filing, units_in, grown, filing_from, first_word, filing_of}
 use Rattle.package.proofs.Numbered.{Numbered}
 use Rattle.package.proofs.NumberedWalks.{sections_numbered}
-use Rattle.std.specs.Prelude.{if◌then◌else◌}
 
 -- ---- one object
 -- 1 to 16, or 34
-pub record Refuses {A : Type 0} (m : Check A) : Type 0 where
-  pub is : (n : ℕ) → m ≡ refuse n → 1 ≤ n
-  pub most : (n : ℕ) → m ≡ refuse n → (n ≤ 16) ⊎ (n ≡ bad_parts)
+pub record Refuses {A : Type 0} (m : Result A ℕ) : Type 0 where
+  pub is : (n : ℕ) → m ≡ Err n → 1 ≤ n
+  pub most : (n : ℕ) → m ≡ Err n → (n ≤ 16) ⊎ (n ≡ bad_parts)
 
-pub refuses_pass : {A : Type 0} (a : A) → Refuses (pass a)
+pub refuses_pass : {A : Type 0} (a : A) → Refuses (Ok a)
 refuses_pass a = record { is = λ n e. absurd (pass_refuse a n e); most = λ n e. absurd (pass_refuse a n e) }
 
-pub refuses_few : {A : Type 0} (m : Check A) → Numbered m → Refuses m
+pub refuses_few : {A : Type 0} (m : Result A ℕ) → Numbered m → Refuses m
 refuses_few m h = record { is = h.is; most = λ n e. inl (h.most n e) }
 
-refuses_parts : {A : Type 0} (m : Check A) → Only bad_parts m → Refuses m
+refuses_parts : {A : Type 0} (m : Result A ℕ) → Only bad_parts m → Refuses m
 refuses_parts m h = record { is = λ n e. omega (arith, h.is n e); most = λ n e. inr (h.is n e) }
 
-pub refuses_bind : {A B : Type 0} (m : Check A) (f : A → Check B) → Refuses m → ((a : A) → Refuses (f a)) → Refuses (m >>= f)
+pub refuses_bind : {A B : Type 0} (m : Result A ℕ) (f : A → Result B ℕ) → Refuses m → ((a : A) → Refuses (f a)) → Refuses (m >>= f)
 refuses_bind m f o g = record {
   is = λ n e. ⊎_elim (λ r. o.is n r) (λ p. (g p.0).is n p.2) (bind_refuse m f n e);
   most = λ n e. ⊎_elim (λ r. o.most n r) (λ p. (g p.0).most n p.2) (bind_refuse m f n e);
 }
 
-refuses_choice : {A : Type 0} (t : Bool) (a b : Check A) → Refuses a → Refuses b → Refuses {A = A} (if t then a else b)
+refuses_choice : {A : Type 0} (t : Bool) (a b : Result A ℕ) → Refuses a → Refuses b → Refuses {A = A} (if t then a else b)
 refuses_choice true a b p q = p
 refuses_choice false a b p q = q
 
@@ -121,24 +114,24 @@ filing_numbered b k = filing_from_law b k.big (first_word k.objects) (λ c. 0) [
 
 -- ---- the walk
 -- what is filed, before what is still to come
-unfoldable pub behind_done : List Input → List Filed → Check Filing → Check Filing
-behind_done is us m = m >>= λ r. pass (record { inputs = is ++ r.inputs; units = us ++ r.units })
+unfoldable pub behind_done : List Input → List Filed → Result Filing ℕ → Result Filing ℕ
+behind_done is us m = m >>= λ r. Ok (record { inputs = is ++ r.inputs; units = us ++ r.units })
 
-pub behind_none : (m : Check Filing) → behind_done [] [] m ≡ m
+pub behind_none : (m : Result Filing ℕ) → behind_done [] [] m ≡ m
 unfolding behind_done ◌>>=◌
-behind_none (pass r) = refl
-behind_none (refuse n) = refl
+behind_none (Ok r) = refl
+behind_none (Err n) = refl
 
-pub behind_refused : (is : List Input) (us : List Filed) (m : Check Filing) (n : ℕ) → m ≡ refuse n → behind_done is us m ≡ refuse n
+pub behind_refused : (is : List Input) (us : List Filed) (m : Result Filing ℕ) (n : ℕ) → m ≡ Err n → behind_done is us m ≡ Err n
 unfolding behind_done
 behind_refused is us m n e = then_refuse _ _ n e
 
-behind_more : (is : List Input) (us : List Filed) (i : Input) (here : List Filed) (m : Check Filing)
-    → behind_done is us (m >>= λ r. pass (record { inputs = i ∷ r.inputs; units = here ++ r.units })) ≡ behind_done (is ++ (i ∷ [])) (us ++ here) m
+behind_more : (is : List Input) (us : List Filed) (i : Input) (here : List Filed) (m : Result Filing ℕ)
+    → behind_done is us (m >>= λ r. Ok (record { inputs = i ∷ r.inputs; units = here ++ r.units })) ≡ behind_done (is ++ (i ∷ [])) (us ++ here) m
 unfolding behind_done ◌>>=◌
-behind_more is us i here (pass r) =
-    ap₂ (λ (a : List Input) (c : List Filed). pass (record { inputs = a; units = c })) (sym (append_assoc is (i ∷ []) r.inputs)) (sym (append_assoc us here r.units))
-behind_more is us i here (refuse n) = refl
+behind_more is us i here (Ok r) =
+    ap₂ (λ (a : List Input) (c : List Filed). Ok (record { inputs = a; units = c })) (sym (append_assoc is (i ∷ []) r.inputs)) (sym (append_assoc us here r.units))
+behind_more is us i here (Err n) = refl
 
 module _ (b : List ℕ) (big : Bool) (first : ℕ) where
   -- the objects done and those ahead, of all
@@ -150,23 +143,23 @@ module _ (b : List ℕ) (big : Bool) (first : ℕ) where
 
   module _ (is : List Input) (us : List Filed) (bases : BySection ℕ) (all : List Object) where
     -- at the end
-    pub ahead_end : ObjectsAhead is us bases [] all → filing_from b big first (λ c. 0) [] all ≡ pass (record { inputs = is; units = us })
+    pub ahead_end : ObjectsAhead is us bases [] all → filing_from b big first (λ c. 0) [] all ≡ Ok (record { inputs = is; units = us })
     unfolding filing_from behind_done ◌>>=◌
-    ahead_end a = sym a.is_all ∙ ap₂ (λ (x : List Input) (y : List Filed). pass (record { inputs = x; units = y })) (append-nil is) (append-nil us)
+    ahead_end a = sym a.is_all ∙ ap₂ (λ (x : List Input) (y : List Filed). Ok (record { inputs = x; units = y })) (append-nil is) (append-nil us)
 
     module _ (o : Object) (os : List Object) (a : ObjectsAhead is us bases (o ∷ os) all) where
       -- an object is refused
-      pub ahead_input_refused : (n : ℕ) → input_of b big first o ≡ refuse n → filing_from b big first (λ c. 0) [] all ≡ refuse n
+      pub ahead_input_refused : (n : ℕ) → input_of b big first o ≡ Err n → filing_from b big first (λ c. 0) [] all ≡ Err n
       unfolding filing_from
       ahead_input_refused n e = sym a.is_all ∙ behind_refused is us _ n (then_refuse _ _ n e)
 
       -- one of its units is
-      pub ahead_unit_refused : (i : Input) (n : ℕ) → input_of b big first o ≡ pass i → units_in i bases us [] i.units ≡ refuse n → filing_from b big first (λ c. 0) [] all ≡ refuse n
+      pub ahead_unit_refused : (i : Input) (n : ℕ) → input_of b big first o ≡ Ok i → units_in i bases us [] i.units ≡ Err n → filing_from b big first (λ c. 0) [] all ≡ Err n
       unfolding filing_from
       ahead_unit_refused i n e f = sym a.is_all ∙ behind_refused is us _ n (then_pass _ _ i e ∙ then_refuse _ _ n f)
 
       -- it is filed
-      pub ahead_more : (i : Input) (here : List Filed) → input_of b big first o ≡ pass i → units_in i bases us [] i.units ≡ pass here
+      pub ahead_more : (i : Input) (here : List Filed) → input_of b big first o ≡ Ok i → units_in i bases us [] i.units ≡ Ok here
           → ObjectsAhead (is ++ (i ∷ [])) (us ++ here) (grown bases i) os all
       unfolding filing_from
       ahead_more i here e f =

@@ -1,15 +1,8 @@
 -- The package of an accepted bundle is a bundle that can be read: its length, its object, and where its sections lie.
-use mathlib.Core.Path.{◌≡◌, refl, sym, ap, ◌∙◌, subst}
-use mathlib.Core.Bool.{Bool, true, ◌&&◌}
-use mathlib.Core.List.{List, [], ◌∷◌, ◌++◌, map, append_assoc, append-nil}
-use mathlib.Core.Option.{none}
-use Prim.Native.Nat.{ℕ, ◌+◌, ◌*◌, ◌%◌, ◌/◌, ◌<◌, ◌≤◌}
-use native.Mathlib.Omega.{arith}
-use lib.Dec.{eqb, leb}
-use lib.ListN.{length, length-append}
-use borrow.Author.Tests.{leb-true, le-leb, lt-leb, eq-eqb}
+use Rattle.std.proofs.Common.{◌≡◌, refl, sym, ap, ◌∙◌, subst, Bool, true, ◌&&◌, List, [], ◌∷◌, ◌++◌, map, append_assoc, append-nil, ℕ, ◌+◌, ◌*◌, ◌%◌, ◌/◌, ◌<◌, ◌≤◌, arith, eqb, leb, length, length-append, leb-true, le-leb, eq-eqb}
+use Rattle.std.specs.Prelude.{None, Ok}
+use borrow.Author.Tests.{lt-leb}
 use Rattle.octets.specs.Lists.{joined, those, all, any, sum}
-use Rattle.octets.specs.Checked.{pass}
 use Rattle.octets.proofs.Checks.{bind_pass, and_both, and_left, and_right}
 use Rattle.octets.proofs.Lists.{all_head, all_tail, length_those}
 use Rattle.octets.proofs.Numbers.{Bytes}
@@ -60,7 +53,7 @@ module _ (b p : List ℕ) (a : Accepted b p) where
   few = length_those non_empty (section_list a.filing a.cu a.tu)
 
   stored : Every Storable sections_of
-  unfolding section_list all
+  unfolding section_list
   stored = each_those non_empty (section_list a.filing a.cu a.tu) (storable (section_list a.filing a.cu a.tu) refl (sections_small b p a))
 
   -- ---- without objects
@@ -69,10 +62,10 @@ module _ (b p : List ℕ) (a : Accepted b p) where
   none_is q = a.is ∙ ap (λ (os : List Object). written a.bundle.big (package_objects os sections_of)) q
 
   pub none_length : a.bundle.objects ≡ [] → length p ≡ 8
-  unfolding sum joined
+  unfolding sum
   none_length q = ap length (none_is q) ∙ length_written a.bundle.big []
 
-  pub none_read : a.bundle.objects ≡ [] → bundle_of p ≡ pass (record { big = a.bundle.big; objects = [] })
+  pub none_read : a.bundle.objects ≡ [] → bundle_of p ≡ Ok (record { big = a.bundle.big; objects = [] })
   unfolding objects_from
   none_read q = ap bundle_of (none_is q) ∙ written_bundle a.bundle.big [] nothing (omega (arith, none_length q, ap length (none_is q)))
 
@@ -106,7 +99,7 @@ module _ (b p : List ℕ) (a : Accepted b p) where
     word_kind : o.word / 0x100_0000 ≡ 16
     word_kind = (each_head (subst (Every (Stands b)) q (bundle_stands b a.bundle a.read))).kind
 
-    pub package_read : bundle_of p ≡ pass (record { big = a.bundle.big; objects = record { word = o.word; parts = parts_from 8 sections_of } ∷ [] })
+    pub package_read : bundle_of p ≡ Ok (record { big = a.bundle.big; objects = record { word = o.word; parts = parts_from 8 sections_of } ∷ [] })
     unfolding objects_from
     package_read =
         ap bundle_of package_is
@@ -116,7 +109,7 @@ module _ (b p : List ℕ) (a : Accepted b p) where
     unfolding filing_of filing_from first_word
     encoding_is_good h =
         let big = a.bundle.big in
-        let all : filing_from b big o.word (λ c. 0) [] (o ∷ os) ≡ pass a.filing = ap (λ (l : List Object). filing_from b big (first_word l) (λ c. 0) [] l) (sym q) ∙ a.filed in
+        let all : filing_from b big o.word (λ c. 0) [] (o ∷ os) ≡ Ok a.filing = ap (λ (l : List Object). filing_from b big (first_word l) (λ c. 0) [] l) (sym q) ∙ a.filed in
         let i = bind_pass (input_of b big o.word o) _ a.filing all in
         (input_facts b big o.word o i.0 h i.1).good
 
@@ -129,7 +122,7 @@ module _ (b p : List ℕ) (a : Accepted b p) where
     front_length = length-append (head_bytes a.bundle.big) (word_bytes o.word) ∙ omega (arith, length_head a.bundle.big, length_word o.word)
 
     package_split : (rest : List ℕ) × (p ≡ front ++ (joined (map section_bytes sections_of) ++ rest))
-    unfolding front written object_bytes joined
+    unfolding front written object_bytes
     package_split =
         let h = head_bytes a.bundle.big in
         let w = word_bytes o.word in
@@ -147,7 +140,7 @@ module _ (b p : List ℕ) (a : Accepted b p) where
         (subst (λ (n : ℕ). SectionIn p (parts_from n sections_of) c (bytes_in sections_of c)) front_length
         (subst (λ (z : List ℕ). SectionIn z (parts_from (length front) sections_of) c (bytes_in sections_of c)) (sym package_split.1) r))
 
-    pub section_missing : (c : ℕ) → length (bytes_in (section_list a.filing a.cu a.tu) c) ≡ 0 → first_part (parts_from 8 sections_of) c ≡ none
+    pub section_missing : (c : ℕ) → length (bytes_in (section_list a.filing a.cu a.tu) c) ≡ 0 → first_part (parts_from 8 sections_of) c ≡ None
     section_missing c h =
         let l = left (section_list a.filing a.cu a.tu) c (list_distinct a.filing a.cu a.tu) in
         no_part 8 sections_of c (l.there ∙ lt-leb 1 (length (bytes_in (section_list a.filing a.cu a.tu) c)) (omega (arith, h)))

@@ -1,16 +1,9 @@
 -- What is known of an object's str_offsets, piece by piece: the pieces are the section, each is judged alone, and a part that a row names is one of them.
-use mathlib.Core.Path.{◌≡◌, refl, sym, ap, ap₂, ◌∙◌, subst}
-use mathlib.Core.Logic.{⊎_elim}
-use mathlib.Core.Bool.{true, false}
-use mathlib.Core.List.{List, [], ◌∷◌, ◌++◌, map, append-nil}
-use mathlib.Core.Option.{Option}
-use Prim.Native.Nat.{ℕ, ◌+◌, ◌*◌, ◌-◌, ◌/◌, ◌≤◌}
-use native.Mathlib.Nat.{zero-div, mul-zero}
-use native.Mathlib.Omega.{arith}
-use lib.ListN.{length, length-append}
+use Rattle.std.proofs.Common.{◌≡◌, refl, sym, ap, ap₂, ◌∙◌, subst, ⊎_elim, true, false, List, [], ◌∷◌, ◌++◌, map, append-nil, ℕ, ◌+◌, ◌*◌, ◌-◌, ◌/◌, ◌≤◌, mul-zero, arith, length, length-append}
+use Rattle.std.specs.Prelude.{Option, Ok}
+use native.Mathlib.Nat.{zero-div}
 use Rattle.octets.specs.Octets.{part, numbers_in}
 use Rattle.octets.specs.Lists.{joined}
-use Rattle.octets.specs.Checked.{pass}
 use Rattle.octets.proofs.Checks.{bind_pass, pass_inj, known}
 use Rattle.octets.proofs.Joined.{map-append, joined_append}
 use Rattle.octets.proofs.Parts.{part_append_behind, part_append_front, part_middle, length_part}
@@ -32,7 +25,7 @@ use Rattle.package.proofs.Each.{each_head, each_tail, each_left, each_middle}
 pub record PieceFacts (e : Encoding) (str : List ℕ) (p : Piece) : Type 0 where
   -- a header and whole entries
   pub whole : Whole e p.bytes
-  pub strings : strings_at str (entries_in e p.bytes) ≡ pass p.used
+  pub strings : strings_at str (entries_in e p.bytes) ≡ Ok p.used
 
 abbrev pub bytes_of : List Piece → List (List ℕ)
 bytes_of ps = map (λ p. p.bytes) ps
@@ -53,7 +46,7 @@ pub record InPiece (e : Encoding) (ps : List Piece) (k : Contribution) : Type 0 
   pub within : e.width * entries + k.size ≤ length piece.bytes
 
 -- ---- 8 and 9
-pub piece_facts : (e : Encoding) (str s : List ℕ) (p : Piece) → piece_of e str s ≡ pass p → (p.bytes ≡ s) × PieceFacts e str p
+pub piece_facts : (e : Encoding) (str s : List ℕ) (p : Piece) → piece_of e str s ≡ Ok p → (p.bytes ≡ s) × PieceFacts e str p
 unfolding piece_of
 piece_facts e str s p q =
     let os = bind_pass (entries_of e s) _ p q in
@@ -66,7 +59,7 @@ pub record PiecesAre (e : Encoding) (str s : List ℕ) (cs : List Contribution) 
   pub bytes : bytes_of ps ≡ map (part_of s) cs
   pub each : Every (PieceFacts e str) ps
 
-pub pieces_are : (e : Encoding) (str s : List ℕ) (cs : List Contribution) (ps : List Piece) → pieces_of e str s cs ≡ pass ps → PiecesAre e str s cs ps
+pub pieces_are : (e : Encoding) (str s : List ℕ) (cs : List Contribution) (ps : List Piece) → pieces_of e str s cs ≡ Ok ps → PiecesAre e str s cs ps
 unfolding pieces_of part_of
 pieces_are e str s [] ps q = subst (PiecesAre e str s []) (pass_inj q) (record { bytes = refl; each = nothing })
 pieces_are e str s (c ∷ cs) ps q =
@@ -107,9 +100,9 @@ pub record OnePiece (e : Encoding) (s str : List ℕ) (ps : List Piece) : Type 0
   pub facts : PiecesFacts e s str ps
   pub one : (length s ≡ 0 → ⊥) → (p : Piece) × (ps ≡ p ∷ []) × (p.bytes ≡ s)
 
-pub whole_facts : (e : Encoding) (b : List ℕ) (qs : List Part) (ps : List Piece) → (present qs 6 ≡ false → body b qs 6 ≡ []) → whole_pieces e qs (body b qs) ≡ pass ps
+pub whole_facts : (e : Encoding) (b : List ℕ) (qs : List Part) (ps : List Piece) → (present qs 6 ≡ false → body b qs 6 ≡ []) → whole_pieces e qs (body b qs) ≡ Ok ps
     → OnePiece e (body b qs 6) (body b qs 11) ps
-unfolding whole_pieces joined
+unfolding whole_pieces
 whole_facts e b qs ps absent q = ⊎_elim
     (λ (t : present qs 6 ≡ true).
     let p = bind_pass (piece_of e (body b qs 11) (body b qs 6)) _ ps (rw (whole_pieces, t) at q) in
@@ -127,7 +120,7 @@ pub record Tiled (e : Encoding) (s str : List ℕ) (cs : List Contribution) (ps 
   pub facts : PiecesFacts e s str ps
   pub parts : (c : Contribution) → is_one cs c ≡ true → InPiece e ps c
 
-pub tiled_facts : (e : Encoding) (bytes : BySection (List ℕ)) (cu tu : Option Index) (ps : List Piece) → tiled_pieces e bytes cu tu ≡ pass ps
+pub tiled_facts : (e : Encoding) (bytes : BySection (List ℕ)) (cu tu : Option Index) (ps : List Piece) → tiled_pieces e bytes cu tu ≡ Ok ps
     → Tiled e (bytes 6) (bytes 11) (named cu ++ named tu) ps
 unfolding tiled_pieces
 tiled_facts e bytes cu tu ps q =
@@ -164,14 +157,14 @@ tiled_facts e bytes cu tu ps q =
 -- ---- written
 pub all_append : (e : Encoding) (table : List (List ℕ)) (before : List Piece) (p : Piece) (behind : List Piece)
     → remapped_all e table (before ++ (p ∷ behind)) ≡ remapped_all e table before ++ (remapped e table p.bytes p.used ++ remapped_all e table behind)
-unfolding remapped_all joined
+unfolding remapped_all
 all_append e table before p behind =
     let f : Piece → List ℕ = λ r. remapped e table r.bytes r.used in
     ap joined (map-append f before (p ∷ behind)) ∙ joined_append (map f before) (f p ∷ map f behind)
 
 -- as long as the section that it stands for
 pub all_length : (e : Encoding) (table : List (List ℕ)) (str : List ℕ) (ps : List Piece) → Sound e → Every (PieceFacts e str) ps → length (remapped_all e table ps) ≡ length (joined (bytes_of ps))
-unfolding remapped_all joined
+unfolding remapped_all
 all_length e table str [] ok f = refl
 all_length e table str (p ∷ ps) ok f =
     let g = each_head f in
@@ -186,7 +179,6 @@ module _ (e : Encoding) (s str : List ℕ) (ps : List Piece) (f : PiecesFacts e 
   own_facts = each_middle h.before h.piece h.behind (subst (Every (PieceFacts e str)) h.stands f.each)
 
   section_is : s ≡ joined (bytes_of h.before) ++ (h.piece.bytes ++ joined (bytes_of h.behind))
-  unfolding joined
   section_is =
       sym f.joins ∙ ap (λ (l : List Piece). joined (bytes_of l)) h.stands
       ∙ ap joined (map-append (λ (p : Piece). p.bytes) h.before (h.piece ∷ h.behind))

@@ -1,16 +1,9 @@
 -- Packing refuses by 1 to 16, by 19 and by 34, and by 18 where the output is too short.
-use mathlib.Core.Path.{◌≡◌, sym, ap}
-use mathlib.Core.Logic.{◌⊎◌, inl, inr, ⊎_elim}
-use mathlib.Core.Bool.{true, false}
-use mathlib.Core.List.{List}
-use Prim.Native.Nat.{ℕ, ◌*◌, ◌/◌, ◌%◌, ◌≤◌}
-use native.Mathlib.Omega.{arith}
-use lib.Dec.{leb}
-use lib.ListN.{length}
+use Rattle.std.proofs.Common.{◌≡◌, sym, ap, ◌⊎◌, inl, inr, ⊎_elim, true, false, List, ℕ, ◌*◌, ◌/◌, ◌%◌, ◌≤◌, arith, leb, length}
 use Rattle.numbers.specs.Refusals.{bad_parts}
 use Rattle.numbers.specs.Limits.{work_for_word}
 use Rattle.octets.specs.Lists.{all}
-use Rattle.octets.specs.Checked.{Check, pass, refuse}
+use Rattle.std.specs.Prelude.{Result, Ok, Err}
 use Rattle.octets.proofs.Checks.{require_refuse, bind_refuse, pass_refuse, known}
 use Rattle.bundle.specs.Bundle.{bundle_of, length_good}
 use Rattle.bundle.specs.Written.{Section}
@@ -23,7 +16,7 @@ use Rattle.package.proofs.OverObjects.{filing_numbered}
 abbrev pub Refusal : ℕ → Type 0
 Refusal n = ((1 ≤ n) × (n ≤ 16)) ⊎ (n ≡ 19) ⊎ (n ≡ bad_parts)
 
-judged_refuses : (b : List ℕ) (w n : ℕ) → judged b w ≡ refuse n → Refusal n
+judged_refuses : (b : List ℕ) (w n : ℕ) → judged b w ≡ Err n → Refusal n
 unfolding judged
 judged_refuses b w n q = ⊎_elim
     (λ e. inl (omega (arith, e.1), omega (arith, e.1)))
@@ -42,10 +35,10 @@ judged_refuses b w n q = ⊎_elim
     (require_refuse (leb (work_for_word * (length b / 4)) w) 2 _ n one.1))
     (require_refuse (length_good 4_194_304 b) 1 _ n q)
 
-refused_judged : (m : Check (List ℕ)) (o n : ℕ) → answered m o ≡ refused n → m ≡ refuse n
+refused_judged : (m : Result (List ℕ) ℕ) (o n : ℕ) → answered m o ≡ refused n → m ≡ Err n
 unfolding answered
-refused_judged (refuse k) o n e = let z : k ≡ n = cc in ap refuse z
-refused_judged (pass p) o n e = ⊎_elim
+refused_judged (Err k) o n e = let z : k ≡ n = cc in ap Err z
+refused_judged (Ok p) o n e = ⊎_elim
     (λ (t : leb (length p) o ≡ true). let r = rw (answered, t) at e in let z : ◌≡◌ {A = ℕ} 0 1 = cc in absurd (omega arith))
     (λ (t : leb (length p) o ≡ false). let r = rw (answered, t) at e in let z : ◌≡◌ {A = ℕ} 0 1 = cc in absurd (omega arith))
     (known (leb (length p) o))

@@ -1,13 +1,6 @@
 -- The rows of the indexes: which units they are of, and where each one's own bytes and contributions lie in the package's sections.
-use mathlib.Core.Path.{◌≡◌, refl, sym, ap, ◌∙◌, subst}
-use mathlib.Core.Logic.{⊎_elim}
-use mathlib.Core.Bool.{Bool, true, false}
-use mathlib.Core.List.{List, [], ◌∷◌, ◌++◌, map, append_assoc}
-use Prim.Native.Nat.{ℕ, ◌+◌, ◌≤◌}
-use native.Mathlib.Omega.{arith}
-use lib.Dec.{eqb}
-use lib.ListN.{length, length-append}
-use borrow.Author.Tests.{eqb-true, eqb-false, eq-eqb, ne_eqb}
+use Rattle.std.proofs.Common.{◌≡◌, refl, sym, ap, ◌∙◌, subst, ⊎_elim, Bool, true, false, List, [], ◌∷◌, ◌++◌, map, append_assoc, ℕ, ◌+◌, ◌≤◌, arith, eqb, length, length-append, eqb-true, eq-eqb, ne_eqb}
+use borrow.Author.Tests.{eqb-false}
 use Rattle.octets.specs.Octets.{part}
 use Rattle.octets.specs.Lists.{joined, those}
 use Rattle.octets.proofs.Checks.{known}
@@ -32,7 +25,7 @@ behind_append before [] vs = refl
 behind_append before (u ∷ us) vs = behind_append (longer before u.home (length u.bytes)) us vs
 
 pub unit_here : (u : Filed) (us : List Filed) (home : ℕ) → u.home ≡ home → unit_bytes (u ∷ us) home ≡ u.bytes ++ unit_bytes us home
-unfolding unit_bytes joined
+unfolding unit_bytes
 unit_here u us home e = ap (λ (l : List Filed). joined (map (λ (v : Filed). v.bytes) l)) (those_keeps (λ (v : Filed). eqb v.home home) u us (eq-eqb _ _ e))
 
 pub unit_later : (u : Filed) (us : List Filed) (home : ℕ) → (u.home ≡ home → ⊥) → unit_bytes (u ∷ us) home ≡ unit_bytes us home
@@ -56,7 +49,7 @@ unfolding longer
 longer_other before home n c e = rw (longer, ne_eqb c home e)
 
 pub behind_at : (before : BySection ℕ) (us : List Filed) (c : ℕ) → behind_all before us c ≡ before c + length (unit_bytes us c)
-unfolding behind_all unit_bytes those joined
+unfolding behind_all unit_bytes
 behind_at before [] c = omega arith
 behind_at before (u ∷ us) c = ⊎_elim
     (λ (t : eqb u.home c ≡ true).
@@ -98,7 +91,7 @@ rows_later before u us t e =
     (entries_from (longer before u.home (length u.bytes)) us) (ne_eqb _ _ e))
 
 pub rows_append : (before : BySection ℕ) (us vs : List Filed) (t : ℕ) → rows_from before (us ++ vs) t ≡ rows_from before us t ++ rows_from (behind_all before us) vs t
-unfolding behind_all rows_from entries_from those
+unfolding behind_all rows_from entries_from
 rows_append before [] vs t = refl
 rows_append before (u ∷ us) vs t = ⊎_elim
     (λ (h : eqb u.table t ≡ true).
@@ -112,7 +105,7 @@ rows_append before (u ∷ us) vs t = ⊎_elim
     (known (eqb u.table t))
 
 pub rows_identities : (before : BySection ℕ) (us : List Filed) (t : ℕ) → map (λ r. r.identity) (rows_from before us t) ≡ identities_in t us
-unfolding rows_from entries_from those identities_in row_at
+unfolding rows_from entries_from identities_in row_at
 rows_identities before [] t = refl
 rows_identities before (u ∷ us) t = ⊎_elim
     (λ (h : eqb u.table t ≡ true).
@@ -145,7 +138,7 @@ row_stands pre u post t e =
 each_from : (P : Row → Type 0) (t : ℕ) (pre post : List Filed)
     → ((xs : List Filed) (u : Filed) (ys : List Filed) → pre ++ post ≡ xs ++ (u ∷ ys) → P (row_at (behind_all nothing_before xs) u))
     → Every P (rows_from (behind_all nothing_before pre) post t)
-unfolding rows_from entries_from those behind_all
+unfolding rows_from entries_from behind_all
 each_from P t pre [] h = nothing
 each_from P t pre (u ∷ us) h =
     let next : Every P (rows_from (behind_all nothing_before (pre ++ (u ∷ []))) us t) =

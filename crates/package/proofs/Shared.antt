@@ -1,12 +1,5 @@
 -- The shared sections of the package: where an object's section lies in them, and a unit's contribution.
-use mathlib.Core.Path.{◌≡◌, refl, sym, ap, ◌∙◌}
-use mathlib.Core.Bool.{Bool, true, false}
-use mathlib.Core.List.{List, [], ◌∷◌, ◌++◌, map}
-use Prim.Native.Nat.{ℕ, ◌+◌, ◌≤◌}
-use native.Mathlib.Omega.{arith}
-use lib.Dec.{eqb}
-use lib.ListN.{length, length-append}
-use borrow.Author.Tests.{ne_eqb}
+use Rattle.std.proofs.Common.{◌≡◌, refl, sym, ap, ◌∙◌, Bool, true, false, List, [], ◌∷◌, ◌++◌, map, ℕ, ◌+◌, ◌≤◌, arith, eqb, length, length-append, ne_eqb}
 use Rattle.octets.specs.Octets.{part}
 use Rattle.octets.specs.Lists.{joined, sum}
 use Rattle.octets.proofs.Joined.{map-append, joined_append}
@@ -49,7 +42,7 @@ abbrev pub Sized : List (List ℕ) → Input → Type 0
 Sized table i = (c : ℕ) → length (given table c i) ≡ length (i.bytes c)
 
 pub length_given : (table : List (List ℕ)) (is : List Input) (c : ℕ) → Every (Sized table) is → length (joined (map (given table c) is)) ≡ lengths_in is c
-unfolding joined lengths_in sum
+unfolding lengths_in sum
 length_given table [] c e = refl
 length_given table (i ∷ is) c e =
     length-append (given table c i) (joined (map (given table c) is)) ∙ omega (arith, each_head e c, length_given table is c (each_tail e))
@@ -57,7 +50,6 @@ length_given table (i ∷ is) c e =
 -- object i stands behind others
 module _ (table : List (List ℕ)) (before : List Input) (i : Input) (behind : List Input) (sized : Every (Sized table) (before ++ (i ∷ behind))) (c : ℕ) where
   shared_split : shared_bytes table (before ++ (i ∷ behind)) c ≡ joined (map (given table c) before) ++ (given table c i ++ joined (map (given table c) behind))
-  unfolding joined
   shared_split =
       shared_given table (before ++ (i ∷ behind)) c
       ∙ ap joined (map-append (given table c) before (i ∷ behind))

@@ -1,14 +1,7 @@
 -- Both indexes of the package: their rows can be written, and what is written is read back, finds them and misses others.
-use mathlib.Core.Path.{◌≡◌, refl, sym, ap, ◌∙◌, subst}
-use mathlib.Core.Logic.{◌⊎◌, ⊎_elim}
-use mathlib.Core.Bool.{Bool, true, false}
-use mathlib.Core.List.{List, [], ◌∷◌, map}
-use mathlib.Core.Option.{Option, some, none}
-use Prim.Native.Nat.{ℕ, zero, suc, ◌+◌, ◌*◌, ◌%◌, ◌^◌, ◌<◌, ◌≤◌}
-use native.Mathlib.Nat.{not-suc-le-zero, le_of_suc-le-suc}
-use native.Mathlib.Omega.{arith}
-use lib.Dec.{eqb}
-use lib.ListN.{length, get_or, length-append, length-map}
+use Rattle.std.proofs.Common.{◌≡◌, refl, sym, ap, ◌∙◌, subst, ◌⊎◌, ⊎_elim, Bool, true, false, List, [], ◌∷◌, map, ℕ, zero, suc, ◌+◌, ◌*◌, ◌%◌, ◌^◌, ◌<◌, ◌≤◌, not-suc-le-zero, le_of_suc-le-suc, arith, eqb, length, get_or, length-append}
+use Rattle.std.specs.Prelude.{Option, if◌then◌else◌, Some, None}
+use lib.ListN.{length-map}
 use Rattle.octets.specs.Lists.{those, distinct}
 use Rattle.octets.proofs.Checks.{known}
 use Rattle.octets.proofs.Lists.{length_those}
@@ -33,7 +26,6 @@ use Rattle.package.proofs.Rows.{rows_are, rows_identities, nothing_before, unit_
 use Rattle.package.proofs.ByCode.{info_bytes, types_bytes}
 use Rattle.package.proofs.Cells.{CellFacts, kept_good, rows_good}
 use Rattle.package.proofs.Accepted.{Accepted, accepted_facts, sections_small}
-use Rattle.std.specs.Prelude.{if◌then◌else◌}
 
 pub each_at : {A : Type 0} {P : A → Type 0} (xs : List A) (d : A) (i : ℕ) → Every P xs → i < length xs → P (get_or xs i d)
 each_at [] d i e h = absurd (not-suc-le-zero h)
@@ -50,7 +42,7 @@ bytes_small (s ∷ ss) c e = ⊎_elim
 
 -- ---- how many rows
 units_few : (e : Encoding) (us : List Filed) → Every (Good e) us → 4 * length us ≤ length (unit_bytes us 1) + length (unit_bytes us 2)
-unfolding unit_bytes those
+unfolding unit_bytes
 units_few e [] g = omega arith
 units_few e (u ∷ us) g = ⊎_elim
     (λ (t : u.home ≡ 1). omega (
@@ -91,10 +83,10 @@ module _ (e : Encoding) (f : Filing) (cu tu : List ℕ) (facts : FilingFacts e n
   abbrev rs : List Row
   rs = rows_of (kept f.units) t
 
-  cell_fits : (o : Option Contribution) (c : ℕ) → ((k : Contribution) → o ≡ some k → CellFacts e (bytes_in (section_list f cu tu)) c k) → (offset_of o < 2 ^ 32) × (size_of o < 2 ^ 32)
+  cell_fits : (o : Option Contribution) (c : ℕ) → ((k : Contribution) → o ≡ Some k → CellFacts e (bytes_in (section_list f cu tu)) c k) → (offset_of o < 2 ^ 32) × (size_of o < 2 ^ 32)
   unfolding offset_of size_of
-  cell_fits (some k) c h = let w = (h k refl).within in (omega (arith, w, small c), omega (arith, w, small c))
-  cell_fits none c h = (omega arith, omega arith)
+  cell_fits (Some k) c h = let w = (h k refl).within in (omega (arith, w, small c), omega (arith, w, small c))
+  cell_fits None c h = (omega arith, omega arith)
 
   fit : RowsFit rs
   fit k h =

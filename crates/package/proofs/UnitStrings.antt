@@ -1,19 +1,11 @@
 -- The strings of a unit: what entry j of its str_offsets part named as handed in, the number in the package's part names in the package's str.
-use mathlib.Core.Path.{◌≡◌, refl, sym, ap, ◌∙◌, subst}
-use mathlib.Core.Logic.{◌⊎◌, inl, inr, ⊎_elim}
-use mathlib.Core.Bool.{true, false, ◌&&◌, ◌||◌}
-use mathlib.Core.List.{List, [], ◌∷◌, ◌++◌, append_assoc}
-use mathlib.Core.Option.{some, none}
-use Prim.Native.Nat.{ℕ, ◌+◌, ◌*◌, ◌^◌, ◌<◌, ◌≤◌}
-use native.Mathlib.Nat.{mul-add, pow-le-pow_right, lt_of_lt_of_le, not-suc-le-zero}
-use native.Mathlib.Omega.{arith}
-use lib.Dec.{eqb}
-use lib.ListN.{length, get_or, length-append, get_or-append}
-use lib.Seq.{get_or-append-add}
-use borrow.Author.Tests.{eqb-true, eqb-false}
+use Rattle.std.proofs.Common.{◌≡◌, refl, sym, ap, ◌∙◌, subst, ◌⊎◌, inl, inr, ⊎_elim, true, false, ◌&&◌, ◌||◌, List, [], ◌∷◌, ◌++◌, append_assoc, ℕ, ◌+◌, ◌*◌, ◌^◌, ◌<◌, ◌≤◌, mul-add, lt_of_lt_of_le, not-suc-le-zero, arith, eqb, length, get_or, length-append, get_or-append-add, eqb-true}
+use Rattle.std.specs.Prelude.{Some, None, Ok}
+use native.Mathlib.Nat.{pow-le-pow_right}
+use lib.ListN.{get_or-append}
+use borrow.Author.Tests.{eqb-false}
 use Rattle.octets.specs.Octets.{part, number_at}
 use Rattle.octets.specs.Lists.{joined}
-use Rattle.octets.specs.Checked.{pass}
 use Rattle.octets.proofs.Checks.{known, and_left, and_right, or_cases}
 use Rattle.octets.proofs.Numbers.{number_at_part}
 use Rattle.octets.proofs.Parts.{part_none}
@@ -97,16 +89,16 @@ string_in_table before i behind front p back j q h =
 -- ---- a unit's part
 pub record NamesString (table : List (List ℕ)) (e : Encoding) (u : Filed) (k : Contribution) (j : ℕ) : Type 0 where
   pub string : List ℕ
-  pub handed : string_at 9 (u.input.bytes 11) (get_or (entries_of_unit u) j 0) ≡ pass string
-  pub names : string_at 26 (str_of table) (number_at e.big e.width (given table 6 u.input) (k.offset + header_size e + e.width * j)) ≡ pass string
+  pub handed : string_at 9 (u.input.bytes 11) (get_or (entries_of_unit u) j 0) ≡ Ok string
+  pub names : string_at 26 (str_of table) (number_at e.big e.width (given table 6 u.input) (k.offset + header_size e + e.width * j)) ≡ Ok string
   pub within : header_size e + e.width * j + e.width ≤ k.size
   pub listed : is_in table string ≡ true
 
-pub part_contributed : (u : Filed) (c : ℕ) (k : Contribution) → u.contributions c ≡ some k → contributed u c ≡ part (u.input.bytes c) k.offset k.size
+pub part_contributed : (u : Filed) (c : ℕ) (k : Contribution) → u.contributions c ≡ Some k → contributed u c ≡ part (u.input.bytes c) k.offset k.size
 unfolding contributed
 part_contributed u c k q = rw (contributed, q)
 
-pub none_contributed : (u : Filed) (c : ℕ) → u.contributions c ≡ none → contributed u c ≡ []
+pub none_contributed : (u : Filed) (c : ℕ) → u.contributions c ≡ None → contributed u c ≡ []
 unfolding contributed
 none_contributed u c q = rw (contributed, q)
 
@@ -120,7 +112,7 @@ small_str e n ok h =
     lt_of_lt_of_le b (pow-le-pow_right (omega arith) ok.low)
 
 module _ (e : Encoding) (inputs : List Input) (u : Filed) (g : Good e u) (before behind : List Input) (stands : inputs ≡ before ++ (u.input ∷ behind))
-    (short : length (str_of (string_table inputs)) ≤ 8_388_607) (k : Contribution) (q : u.contributions 6 ≡ some k) where
+    (short : length (str_of (string_table inputs)) ≤ 8_388_607) (k : Contribution) (q : u.contributions 6 ≡ Some k) where
   ok : Sound e
   ok = good_sound e g.object.good
 

@@ -1,12 +1,11 @@
 -- The package (FORMAT 6.10), and the answer: one of the three kinds of `answers/specs/Answers.antt`.
-use Rattle.std.specs.Prelude.{Bool, true, false, List, [], ◌∷◌, ◌++◌, map, ℕ, ◌+◌, ◌*◌, ◌/◌, ◌%◌, length, ◌==◌, nat_le, if◌then◌else◌}
-use Rattle.std.proofs.Math.Option.{Option, some, none}
+use Rattle.std.specs.Prelude.{Bool, true, false, List, [], ◌∷◌, ◌++◌, map, ℕ, ◌+◌, ◌*◌, ◌/◌, ◌%◌, length, ◌==◌, nat_le, if◌then◌else◌, Option, Some, None, Result, Ok, Err}
 use Rattle.numbers.specs.Tables.{compilation_table, type_table}
 use Rattle.numbers.specs.Sections.{info_code, types_code, abbrev_code, line_code, loc_code, str_offsets_code, macinfo_code, macro_code, loclists_code, rnglists_code, str_code, cu_index_code, tu_index_code}
 use Rattle.numbers.specs.Refusals.{bad_length, work_short, section_too_long}
 use Rattle.numbers.specs.Limits.{work_for_word, bundle_limit, section_limit}
 use Rattle.octets.specs.Lists.{joined, those, all}
-use Rattle.octets.specs.Checked.{Check, pass, refuse, ◌>>=◌, require}
+use Rattle.octets.specs.Checked.{◌>>=◌, require}
 pub use Rattle.answers.specs.Answers.{Answer, refused, short, made}
 unfoldable pub use Rattle.answers.specs.Answers.{answered}
 use Rattle.bundle.specs.Bundle.{Object, bundle_of, length_good}
@@ -24,8 +23,8 @@ use Rattle.package.specs.Filing.{Filed, Filing, filing_of, first_word, kept, Kin
 unfoldable pub cells : Filed → ℕ → BySection (Option Contribution)
 cells u at c =
     if c == u.home
-    then some (record { offset = at; size = length u.bytes })
-    else elim (u.contributions c) [ some k ↦ some (record { offset = u.bases c + k.offset; size = k.size }) | none ↦ none ]
+    then Some (record { offset = at; size = length u.bytes })
+    else elim (u.contributions c) [ Some k ↦ Some (record { offset = u.bases c + k.offset; size = k.size }) | None ↦ None ]
 
 pub record Entry : Type 0 where
   pub table : ℕ
@@ -93,7 +92,7 @@ package_objects (o ∷ os) ss = record { word = o.word; sections = ss } ∷ []
 
 -- ---- packing
 -- the package for w words of work, or a refusal but 18
-unfoldable pub judged : List ℕ → ℕ → Check (List ℕ)
+unfoldable pub judged : List ℕ → ℕ → Result (List ℕ) ℕ
 judged b w = do
   _ ← require (length_good bundle_limit b) bad_length
   _ ← require (nat_le (work_for_word * (length b / 4)) w) work_short
@@ -101,7 +100,7 @@ judged b w = do
   f ← filing_of b k
   let ss = package_sections k.big (first_word k.objects % 256) f
   _ ← require (all (λ s. nat_le (length s.bytes) section_limit) ss) section_too_long
-  pass (written k.big (package_objects k.objects ss))
+  Ok (written k.big (package_objects k.objects ss))
 
 -- a bundle, with w words of work and an output of o bytes
 unfoldable pub packed : List ℕ → ℕ → ℕ → Answer
@@ -110,7 +109,7 @@ packed b w o = answered (judged b w) o
 -- ---- what was handed in
 -- every unit of an accepted bundle, in order
 unfoldable pub handed_in : List ℕ → List Filed
-handed_in b = elim (bundle_of b >>= filing_of b) [ pass f ↦ f.units | refuse n ↦ [] ]
+handed_in b = elim (bundle_of b >>= filing_of b) [ Ok f ↦ f.units | Err n ↦ [] ]
 
 -- ---- repeats and namesakes
 -- how many of each kind were skipped; with a refusal, 18 too, none

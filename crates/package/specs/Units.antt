@@ -1,8 +1,6 @@
 -- What it is for units to be handed in with a bundle: they stand in its objects' sections of units and fill them, and each of them is a unit. The theorem
 -- of crate archive says so of every accepted bundle.
-use Rattle.std.specs.Prelude.{◌≡◌, ◌⊎◌, ◌↔◌, Bool, List, [], ◌∷◌, ◌++◌, ℕ, ◌+◌, length}
-use Rattle.std.proofs.Math.Option.{some}
-use Rattle.octets.specs.Checked.{pass}
+use Rattle.std.specs.Prelude.{◌≡◌, ◌⊎◌, ◌↔◌, Bool, List, [], ◌∷◌, ◌++◌, ℕ, ◌+◌, length, Some, Ok}
 use Rattle.numbers.specs.Tables.{compilation_table, type_table}
 use Rattle.bundle.specs.Bundle.{Object}
 use Rattle.bundle.specs.Written.{Section}
@@ -19,12 +17,12 @@ use Rattle.package.specs.Filing.{Filed, index_by_place, abbreviations_for}
 pub record ReadAt (u : Filed) (place : ℕ) : Type 0 where
   -- its object's abbreviations or, where its row is found by its place, that row's part of them
   pub abbreviations : List ℕ
-  pub theirs : abbreviations_for u.input u.home place (length u.bytes) ≡ pass abbreviations
+  pub theirs : abbreviations_for u.input u.home place (length u.bytes) ≡ Ok abbreviations
   pub alone : unit_of u.input.encoding u.home abbreviations u.bytes
-      ≡ pass (record { size = length u.bytes; table = u.table; identity = u.identity })
+      ≡ Ok (record { size = length u.bytes; table = u.table; identity = u.identity })
   -- the search for the identity that was read ends at that row
-  pub ends : (x : Index) → index_by_place u.input u.home ≡ some x
-      → (row : ℕ) × (the_one (naming x place (length u.bytes)) ≡ pass row) × (row_of x (probe x u.identity) ≡ pass row)
+  pub ends : (x : Index) → index_by_place u.input u.home ≡ Some x
+      → (row : ℕ) × (the_one (naming x place (length u.bytes)) ≡ Ok row) × (row_of x (probe x u.identity) ≡ Ok row)
 
 -- somewhere, and for the table that its section and, in version 5, its unit type say
 pub record IsUnit (u : Filed) : Type 0 where
@@ -50,5 +48,5 @@ FillSections i (s ∷ ss) us = (here : List Filed) × (later : List Filed) × (u
 unfoldable pub FillObjects : List ℕ → Bool → ℕ → List Object → List Filed → Type 0
 FillObjects b big first [] us = us ≡ []
 FillObjects b big first (o ∷ os) us =
-    (i : Input) × (input_of b big first o ≡ pass i)
+    (i : Input) × (input_of b big first o ≡ Ok i)
     × ((here : List Filed) × (later : List Filed) × (us ≡ here ++ later) × FillSections i (unit_sections b o.parts) here × FillObjects b big first os later)

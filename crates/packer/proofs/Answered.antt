@@ -1,9 +1,5 @@
 -- What the packer's answers tell of the package and the output.
-use mathlib.Core.Path.{◌≡◌, refl, ap, ◌∙◌}
-use mathlib.Core.List.{List, ◌++◌}
-use Prim.Native.Nat.{ℕ, ◌-◌, ◌≤◌}
-use native.Mathlib.Omega.{arith}
-use lib.ListN.{length, take, length-append}
+use Rattle.std.proofs.Common.{◌≡◌, refl, ap, ◌∙◌, List, ◌++◌, ℕ, ◌-◌, ◌≤◌, arith, length, take, length-append}
 use lib.Seq.{take-append_seam}
 use Rattle.octets.specs.Octets.{padded, zeros}
 use Rattle.package.specs.Pack.{Answer, refused, short, made}

@@ -1,10 +1,6 @@
 -- What the packer answers over an output that it has cleared itself, and the small packer's answers.
-use mathlib.Core.Path.{◌≡◌, sym, ap, ◌∙◌}
-use mathlib.Core.Bool.{true, false}
-use mathlib.Core.List.{List}
-use Prim.Native.Nat.{ℕ}
+use Rattle.std.proofs.Common.{◌≡◌, sym, ap, ◌∙◌, true, false, List, ℕ, length}
 use Rattle.std.specs.Prelude.{Result, Err}
-use lib.ListN.{length}
 use Rattle.numbers.specs.Limits.{small_work}
 use Rattle.numbers.specs.declared.refusals.Refusal.TheVariants.{BadLength}
 use Rattle.octets.specs.Octets.{zeros}

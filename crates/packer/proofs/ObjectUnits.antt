@@ -1,12 +1,7 @@
 -- The units of one object: what the answer of `add_sections` says of them, and the bases behind the object.
-use mathlib.Core.Path.{◌≡◌, refl, sym, ap, ◌∙◌}
-use mathlib.Core.List.{List, [], ◌++◌}
-use Prim.Native.Nat.{ℕ, ◌+◌, ◌^◌, ◌<◌}
-use native.Mathlib.Omega.{arith}
-use lib.ListN.{length, get_or}
+use Rattle.std.proofs.Common.{◌≡◌, refl, sym, ap, ◌∙◌, List, [], ◌++◌, ℕ, ◌+◌, ◌^◌, ◌<◌, arith, length, get_or}
 use Rattle.std.specs.Prelude.{Result, Ok, Err}
 use Rattle.numbers.specs.declared.refusals.Refusal.{Refusal}
-use Rattle.octets.specs.Checked.{Check, pass}
 use Rattle.octets.proofs.Parts.{length_part}
 use Rattle.numbers.specs.Sections.{section_codes}
 use Rattle.index.specs.Rows.{BySection}
@@ -30,7 +25,7 @@ unfolding section_of
 size_is b x i k c h = sym (ap length (k.bytes c h) ∙ length_part b (get_or x.start c 0) (get_or x.size c 0) (k.within c))
 
 module _ (b : List ℕ) (x : InputObject) (from : ℕ) (w v : List ℕ) (st next : InProgress) (i : Input) (bases : BySection ℕ) (us : List Filed) (k : InputReady b x i from w st bases us) where
-  abbrev found : Check (List Filed)
+  abbrev found : Result (List Filed) ℕ
   found = units_in i bases us [] i.units
 
   answered : (r : Result (Unit {0}) Refusal) → ObjectAnswered b x from st next w v r → UnitsAre b x i (behind_from b from) w v st next bases us found r
@@ -43,7 +38,7 @@ module _ (b : List ℕ) (x : InputObject) (from : ℕ) (w v : List ℕ) (st next
 
   -- all are filed
   module _ (added : ObjectAnswered b x from st next w v (Ok tt)) where
-    filed_all : (here : List Filed) × (found ≡ pass here) × UnitsFiled b x i (behind_from b from) w v st next bases us here
+    filed_all : (here : List Filed) × (found ≡ Ok here) × UnitsFiled b x i (behind_from b from) w v st next bases us here
     filed_all = (answered (Ok tt) added).passes tt refl
 
     -- the bases behind the object fit

@@ -1,14 +1,8 @@
 -- One object: what reading it requires and answers, and what is held behind its units.
-use mathlib.Core.Path.{◌≡◌, refl, sym, ap, ◌∙◌, subst}
-use mathlib.Core.Bool.{Bool}
-use mathlib.Core.List.{List, [], ◌∷◌, ◌++◌}
-use Prim.Native.Nat.{ℕ, ◌+◌, ◌*◌, ◌≤◌}
-use native.Mathlib.Omega.{arith}
-use lib.ListN.{length, drop, length-append}
+use Rattle.std.proofs.Common.{◌≡◌, refl, sym, ap, ◌∙◌, subst, Bool, List, [], ◌∷◌, ◌++◌, ℕ, ◌+◌, ◌*◌, ◌≤◌, arith, length, drop, length-append}
 use Rattle.octets.specs.Lists.{joined}
 use Rattle.std.specs.Prelude.{Result, Ok, Err}
 use Rattle.numbers.specs.declared.refusals.Refusal.{Refusal}
-use Rattle.octets.specs.Checked.{pass}
 use Rattle.octets.proofs.Parts.{length_part}
 use Rattle.bundle.specs.Bundle.{Part, Item, Object, items, leading, body}
 use Rattle.bundle.specs.Encoding.{Encoding, encoding_of}
@@ -55,7 +49,7 @@ pub record ObjectParts (b : List ℕ) (e : Encoding) (ps : List Part) (i : Input
   pub units : i.units ≡ unit_sections b ps
   pub pieces : PiecesFacts e (i.bytes 6) (i.bytes 11) i.pieces
 
-object_parts : (b : List ℕ) (big : Bool) (first : ℕ) (o : Object) (i : Input) → input_of b big first o ≡ pass i → ObjectParts b (encoding_of big first) o.parts i
+object_parts : (b : List ℕ) (big : Bool) (first : ℕ) (o : Object) (i : Input) → input_of b big first o ≡ Ok i → ObjectParts b (encoding_of big first) o.parts i
 object_parts b big first o i q =
     let p = input_parts b big first o i q in
     let e = encoding_of big o.word in
@@ -69,7 +63,7 @@ object_parts b big first o i q =
 
 -- its strings take no more than its str_offsets does: an entry takes 4 bytes or more
 used_few : (e : Encoding) (str : List ℕ) (ps : List Piece) → Sound e → Every (PieceFacts e str) ps → 4 * length (used_in ps) ≤ length (joined (bytes_of ps))
-unfolding used_in joined
+unfolding used_in
 used_few e str [] ok f = omega arith
 used_few e str (p ∷ ps) ok f =
     let g = each_head f in
@@ -94,7 +88,7 @@ module _ (b : List ℕ) (from : ℕ) (h : Ahead b from) where
   abbrev ahead : List Item
   ahead = h.reaches.ahead
 
-  left : here b from ≡ pass ahead
+  left : here b from ≡ Ok ahead
   unfolding here
   left = h.reaches.left
 
@@ -172,7 +166,7 @@ module _ (b : List ℕ) (from : ℕ) (h : Ahead b from) where
             pub strings : StringsPut b v st.strings.room t (all_used is ++ used_in i.pieces)
             pub ready : InputReady b x i from v read_st bases us
 
-          read_as : (i : Input) → input_of b big first object ≡ pass i → InputIs b x i × StringsPut b v st.strings.room t (all_used is ++ used_in i.pieces) → ObjectRead i
+          read_as : (i : Input) → input_of b big first object ≡ Ok i → InputIs b x i × StringsPut b v st.strings.room t (all_used is ++ used_in i.pieces) → ObjectRead i
           read_as i e f =
               let p = object_parts b big first object i e in
               record {

@@ -1,11 +1,6 @@
 -- Every answer of the packer, from what its code has found: 1 to 3, a refusal of filing, and what finishing answers.
-use mathlib.Core.Path.{◌≡◌, sym, ap, ◌∙◌, subst}
-use mathlib.Core.Bool.{Bool, true, false, ◌&&◌}
-use mathlib.Core.List.{List}
-use Prim.Native.Nat.{ℕ, ◌*◌, ◌/◌, ◌%◌, ◌≤◌, ◌<◌}
-use lib.Dec.{eqb, leb}
-use lib.ListN.{length}
-use borrow.Author.Tests.{le-leb, lt-leb, leb-true, eqb-true}
+use Rattle.std.proofs.Common.{◌≡◌, sym, ap, ◌∙◌, subst, Bool, true, false, ◌&&◌, List, ℕ, ◌*◌, ◌/◌, ◌%◌, ◌≤◌, ◌<◌, eqb, leb, length, le-leb, leb-true, eqb-true}
+use borrow.Author.Tests.{lt-leb}
 use Rattle.std.specs.Prelude.{Result, Ok, Err}
 use Rattle.std.specs.Result.{IsErrAnd}
 use Rattle.std.proofs.lemmas.Result.{err_from_is_err_and}
@@ -14,7 +9,7 @@ use Rattle.numbers.specs.Refused.{number_of}
 use Rattle.numbers.specs.declared.refusals.Refusal.{Refusal}
 use Rattle.numbers.specs.declared.refusals.Refusal.TheVariants.{BadLength, WorkShort}
 use Rattle.octets.specs.Octets.{zeros}
-use Rattle.octets.specs.Checked.{pass, refuse, mapped}
+use Rattle.octets.specs.Checked.{mapped}
 use Rattle.octets.proofs.Checks.{fails, passes, then_pass, then_refuse, and_left, and_right, refuse_inj}
 use Rattle.bundle.specs.Bundle.{Bundle, bundle_of, length_good}
 use Rattle.bundle.proofs.WordsAnswered.{words_broken}
@@ -47,9 +42,9 @@ module _ (limit : ℕ) (b : List ℕ) (e : length_good limit b ≡ true) where
   length_whole = eqb-true (length b % 4) 0 (and_right (leb 8 (length b) && leb (length b) limit) _ e)
 
 -- ---- the words
-words_refused : (b : List ℕ) (n : ℕ) → refuse n ≡ mapped (λ (u : Bundle). u.big) (bundle_of b) → bundle_of b ≡ refuse n
+words_refused : (b : List ℕ) (n : ℕ) → Err n ≡ mapped (λ (u : Bundle). u.big) (bundle_of b) → bundle_of b ≡ Err n
 unfolding mapped
-words_refused b n e = let q = words_broken b n e in q ∙ ap refuse (sym (refuse_inj (e ∙ ap (mapped (λ (u : Bundle). u.big)) q)))
+words_refused b n e = let q = words_broken b n e in q ∙ ap Err (sym (refuse_inj (e ∙ ap (mapped (λ (u : Bundle). u.big)) q)))
 
 -- ---- the answers, with an output of o bytes that is d behind the packer
 module _ (b : List ℕ) (w o : ℕ) (d : List ℕ) where
@@ -61,7 +56,7 @@ module _ (b : List ℕ) (w o : ℕ) (d : List ℕ) where
   answers_exit r u h a = let p = err_from_is_err_and r h in let q : r ≡ Err u = p.1 ∙ ap Err p.2 in subst Answers (sym q) a
 
   module _ (cleared : d ≡ zeros o) where
-    refused : (r : Refusal) → judged b w ≡ refuse (number_of r) → Answers (Err (Refused r))
+    refused : (r : Refusal) → judged b w ≡ Err (number_of r) → Answers (Err (Refused r))
     unfolding packed
     refused r e = (packing_none b (packed b w o) (Refused r) (refused_answer (judged b w) o (number_of r) e), refused_output (judged b w) o (number_of r) e d cleared)
 
@@ -78,11 +73,11 @@ module _ (b : List ℕ) (w o : ℕ) (d : List ℕ) where
         judges : judged b w ≡ package_in b
         judges = judged_is b w good (le-leb _ _ enough)
 
-        pub answers_words : (r : Refusal) → refuse (number_of r) ≡ mapped (λ (u : Bundle). u.big) (bundle_of b) → Answers (Err (Refused r))
+        pub answers_words : (r : Refusal) → Err (number_of r) ≡ mapped (λ (u : Bundle). u.big) (bundle_of b) → Answers (Err (Refused r))
         unfolding package_in
         answers_words r e = refused r (judges ∙ then_refuse (bundle_of b) _ (number_of r) (words_refused b (number_of r) e))
 
-        pub answers_filing : (k : Bundle) (r : Refusal) → bundle_of b ≡ pass k → filing_of b k ≡ refuse (number_of r) → Answers (Err (Refused r))
+        pub answers_filing : (k : Bundle) (r : Refusal) → bundle_of b ≡ Ok k → filing_of b k ≡ Err (number_of r) → Answers (Err (Refused r))
         unfolding package_in
         answers_filing k r e f = refused r (judges ∙ then_pass (bundle_of b) _ k e ∙ then_refuse (filing_of b k) _ (number_of r) f)
 

@@ -1,17 +1,10 @@
 -- The walk over the objects of a bundle: the first word, and what the loop keeps.
-use mathlib.Core.Path.{◌≡◌, refl, sym, ap, ◌∙◌, subst}
-use mathlib.Core.Logic.{⊎_elim}
-use mathlib.Core.Bool.{Bool}
-use mathlib.Core.List.{List, [], ◌∷◌, ◌++◌, map, map-append, append-nil, append_assoc}
-use Prim.Native.Nat.{ℕ, ◌+◌, ◌%◌, ◌<◌, ◌≤◌}
-use native.Mathlib.Omega.{arith}
-use lib.Dec.{eqb}
-use lib.ListN.{length, drop, length-append}
+use Rattle.std.proofs.Common.{◌≡◌, refl, sym, ap, ◌∙◌, subst, ⊎_elim, Bool, List, [], ◌∷◌, ◌++◌, map, append-nil, append_assoc, ℕ, ◌+◌, ◌%◌, ◌<◌, ◌≤◌, arith, eqb, length, drop, length-append}
+use mathlib.Core.List.{map-append}
 use Rattle.octets.specs.Lists.{joined}
 use Rattle.std.specs.Prelude.{Result, Ok, Err}
 use Rattle.numbers.specs.Refused.{number_of}
 use Rattle.numbers.specs.declared.refusals.Refusal.{Refusal}
-use Rattle.octets.specs.Checked.{Check, pass, refuse}
 use Rattle.octets.proofs.Checks.{pass_inj, pass_refuse, bind_pass, bind_refuse}
 use Rattle.octets.proofs.Joined.{joined_snoc}
 use Rattle.bundle.specs.Bundle.{Part, Item, Object, Bundle, step_at, leading, objects_of, bundle_of}
@@ -43,18 +36,18 @@ use Rattle.filing.proofs.Telling.{tells_pass, tells_refuse, tells_same}
 use Rattle.packer.proofs.Start.{at_start}
 
 -- ---- the first word
-module _ (b : List ℕ) (k : Bundle) (e : bundle_of b ≡ pass k) where
+module _ (b : List ℕ) (k : Bundle) (e : bundle_of b ≡ Ok k) where
   first_none : [] ≡ k.objects → 0 ≡ first_word k.objects
   unfolding first_word
   first_none h = ap first_word h
 
-  pub first_other : (x : Answered) → (tag_of the_type x ≡ 0 → ⊥) → pass x ≡ next_of 4 (step_at 4 (drop 4 b)) → 0 ≡ first_word k.objects
+  pub first_other : (x : Answered) → (tag_of the_type x ≡ 0 → ⊥) → Ok x ≡ next_of 4 (step_at 4 (drop 4 b)) → 0 ≡ first_word k.objects
   first_other x f h = first_none (objects_other b 4 [] k.objects (objects_none b k e) x f h)
 
-  pub first_refused : (n : ℕ) → refuse n ≡ next_of 4 (step_at 4 (drop 4 b)) → 0 ≡ first_word k.objects
+  pub first_refused : (n : ℕ) → Err n ≡ next_of 4 (step_at 4 (drop 4 b)) → 0 ≡ first_word k.objects
   first_refused n h = first_none (objects_refused b 4 [] k.objects (objects_none b k e) n h)
 
-  pub first_some : (word next : ℕ) → pass (AnObject word next) ≡ next_of 4 (step_at 4 (drop 4 b)) → word ≡ first_word k.objects
+  pub first_some : (word next : ℕ) → Ok (AnObject word next) ≡ next_of 4 (step_at 4 (drop 4 b)) → word ≡ first_word k.objects
   unfolding first_word
   first_some word next h = ap first_word (objects_object b 4 [] k.objects (objects_none b k e) word next h).more.is
 
@@ -64,7 +57,7 @@ object_later : {b : List ℕ} {big : Bool} {first : ℕ} (p q : ℕ) {w : List �
     → AtObject b big first p w st bases is us → p ≤ q → q ≤ length b → offsets_from b q ≡ offsets_from b p → AtObject b big first q w st bases is us
 object_later p q a h g e = record { held = held_later p q a.held h g; strings = a.strings; used = omega (arith, a.used, e) }
 
-sections_are : (b : List ℕ) (from : ℕ) (ahead : List Item) → here b from ≡ pass ahead → sections_from b from ≡ leading ahead
+sections_are : (b : List ℕ) (from : ℕ) (ahead : List Item) → here b from ≡ Ok ahead → sections_from b from ≡ leading ahead
 unfolding here sections_from
 sections_are b from ahead e = left_sections b from ahead e
 
@@ -73,7 +66,7 @@ sections_are b from ahead e = left_sections b from ahead e
 pub record SoFar (b : List ℕ) (big : Bool) (first at : ℕ) (w₀ w : List ℕ) (st : InProgress) : Type 0 where
   pub same : length w ≡ length w₀
   pub bundle : Bundle
-  pub reads : bundle_of b ≡ pass bundle
+  pub reads : bundle_of b ≡ Ok bundle
   pub order : bundle.big ≡ big
   pub word : first ≡ first_word bundle.objects
   pub done : List Object
@@ -85,9 +78,8 @@ pub record SoFar (b : List ℕ) (big : Bool) (first at : ℕ) (w₀ w : List ℕ
   pub ahead : (rest : List Object) → done ++ rest ≡ bundle.objects → ObjectsAhead b big first inputs units bases rest bundle.objects
   pub based : (c : ℕ) → bases c ≡ length (joined (map (λ i. i.bytes c) inputs))
 
-pub far_none : {big : Bool} {b w : List ℕ} {room : ℕ} (first : ℕ) → Cleared big b room w → ((k : Bundle) → bundle_of b ≡ pass k → first ≡ first_word k.objects)
+pub far_none : {big : Bool} {b w : List ℕ} {room : ℕ} (first : ℕ) → Cleared big b room w → ((k : Bundle) → bundle_of b ≡ Ok k → first ≡ first_word k.objects)
     → (st : InProgress) → st ≡ none_filed room → SoFar b big first 4 w w st
-unfolding joined
 far_none {big} {b} first c f st z =
     record {
       same = refl;
@@ -114,14 +106,14 @@ grown_is bases is i h c =
 
 module _ {b : List ℕ} {big : Bool} {first at : ℕ} {w₀ w : List ℕ} {st : InProgress} (s : SoFar b big first at w₀ w st) where
   -- the definition's walk
-  filing_is : (k : Bundle) → bundle_of b ≡ pass k → filing_of b k ≡ filing_from b big first (λ c. 0) [] s.bundle.objects
+  filing_is : (k : Bundle) → bundle_of b ≡ Ok k → filing_of b k ≡ filing_from b big first (λ c. 0) [] s.bundle.objects
   unfolding filing_of
   filing_is k e =
       let z : k ≡ s.bundle = pass_inj (sym e ∙ s.reads) in
       rw (z, s.order, s.word)
 
   -- at the end
-  far_end : s.done ≡ s.bundle.objects → (k : Bundle) → bundle_of b ≡ pass k → ObjectsAre big b w (filing_of b k) (Ok st)
+  far_end : s.done ≡ s.bundle.objects → (k : Bundle) → bundle_of b ≡ Ok k → ObjectsAre big b w (filing_of b k) (Ok st)
   unfolding encoding_of
   far_end over k e =
       let whole = ahead_end b big first s.inputs s.units s.bases s.bundle.objects (s.ahead [] (append-nil s.done ∙ over)) in
@@ -139,16 +131,16 @@ module _ {b : List ℕ} {big : Bool} {first at : ℕ} {w₀ w : List ℕ} {st : 
         strings = s.held.strings.kept;
       })
 
-  pub far_other : (x : Answered) → (tag_of the_type x ≡ 0 → ⊥) → pass x ≡ next_of at (step_at at (drop at b))
-      → (k : Bundle) → bundle_of b ≡ pass k → ObjectsAre big b w (filing_of b k) (Ok st)
+  pub far_other : (x : Answered) → (tag_of the_type x ≡ 0 → ⊥) → Ok x ≡ next_of at (step_at at (drop at b))
+      → (k : Bundle) → bundle_of b ≡ Ok k → ObjectsAre big b w (filing_of b k) (Ok st)
   far_other x f h = far_end (objects_other b at s.done s.bundle.objects s.passed x f h)
 
-  pub far_refusal : (n : ℕ) → refuse n ≡ next_of at (step_at at (drop at b))
-      → (k : Bundle) → bundle_of b ≡ pass k → ObjectsAre big b w (filing_of b k) (Ok st)
+  pub far_refusal : (n : ℕ) → Err n ≡ next_of at (step_at at (drop at b))
+      → (k : Bundle) → bundle_of b ≡ Ok k → ObjectsAre big b w (filing_of b k) (Ok st)
   far_refusal n h = far_end (objects_refused b at s.done s.bundle.objects s.passed n h)
 
   -- one object more
-  module _ (word next : ℕ) (e : pass (AnObject word next) ≡ next_of at (step_at at (drop at b))) where
+  module _ (word next : ℕ) (e : Ok (AnObject word next) ≡ next_of at (step_at at (drop at b))) where
     entered : Entered b next word s.done s.bundle.objects
     entered = objects_object b at s.done s.bundle.objects s.passed word next e
 
@@ -178,7 +170,7 @@ module _ {b : List ℕ} {big : Bool} {first at : ℕ} {w₀ w : List ℕ} {st : 
 
     -- what `add_input_object` answers of it
     module _ (v : List ℕ) (after : InProgress) (same : length v ≡ length w) where
-      abbrev answer : Check (Input × List Filed)
+      abbrev answer : Result (Input × List Filed) ℕ
       answer = object_units b big first s.bases s.units one
 
       answered : (r : Result (Unit {0}) Refusal) → HeadAnswered b head st after w v r → Tells {A = Unit {0}} (λ _ p. ObjectFiled b head v after s.bases s.inputs s.units p) answer r
@@ -187,7 +179,7 @@ module _ {b : List ℕ} {big : Bool} {first at : ℕ} {w₀ w : List ℕ} {st : 
           (filed s.bases s.inputs s.units word_held)
 
       module _ (place : ℕ) (behind : place ≡ behind_from b next) (filed : HeadAnswered b head st after w v (Ok (tt {0}))) where
-        done : (p : Input × List Filed) × (answer ≡ pass p) × ObjectFiled b head v after s.bases s.inputs s.units p
+        done : (p : Input × List Filed) × (answer ≡ Ok p) × ObjectFiled b head v after s.bases s.inputs s.units p
         done = (answered (Ok (tt {0})) filed).passes (tt {0}) refl
 
         place_is : place_behind next (leading entered.ahead) ≡ place
@@ -204,7 +196,7 @@ module _ {b : List ℕ} {big : Bool} {first at : ℕ} {w₀ w : List ℕ} {st : 
             let e : (p.0, q.0) ≡ d.0 = pass_inj q.2 in
             on d.0 p.0 q.0 e p.1 q.1 (subst (λ (m : ℕ). AtObject b big first m v after (grown s.bases d.0.0) (s.inputs ++ (d.0.0 ∷ [])) (s.units ++ d.0.1)) (sym behind) d.2)
           where
-            on : (z : Input × List Filed) (i : Input) (us : List Filed) → (i, us) ≡ z → input_of b big first one ≡ pass i → units_in i s.bases s.units [] i.units ≡ pass us
+            on : (z : Input × List Filed) (i : Input) (us : List Filed) → (i, us) ≡ z → input_of b big first one ≡ Ok i → units_in i s.bases s.units [] i.units ≡ Ok us
                 → AtObject b big first place v after (grown s.bases z.0) (s.inputs ++ (z.0 ∷ [])) (s.units ++ z.1) → SoFar b big first place w₀ v after
             on z i us e q u held = record {
               same = same ∙ s.same;
@@ -222,7 +214,7 @@ module _ {b : List ℕ} {big : Bool} {first at : ℕ} {w₀ w : List ℕ} {st : 
               based = grown_is s.bases s.inputs i s.based;
             }
 
-      pub far_refused : (r : Refusal) → HeadAnswered b head st after w v (Err r) → (k : Bundle) → bundle_of b ≡ pass k → ObjectsAre big b v (filing_of b k) (Err r)
+      pub far_refused : (r : Refusal) → HeadAnswered b head st after w v (Err r) → (k : Bundle) → bundle_of b ≡ Ok k → ObjectsAre big b v (filing_of b k) (Err r)
       far_refused r filed k p =
           let behind_it : List Object = objects_of entered.more.rest in
           let left : ObjectsAhead b big first s.inputs s.units s.bases (one ∷ behind_it) s.bundle.objects = s.ahead (one ∷ behind_it) (sym (append_assoc s.done (one ∷ []) behind_it) ∙ entered.more.is) in

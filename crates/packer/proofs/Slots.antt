@@ -1,10 +1,5 @@
 -- The slots of identities seen, cleared table by table, and the roots of the strings' index.
-use mathlib.Core.Path.{◌≡◌, sym, ap, ◌∙◌, subst}
-use mathlib.Core.Logic.{⊎_elim}
-use mathlib.Core.List.{List}
-use Prim.Native.Nat.{ℕ, ◌+◌, ◌*◌, ◌-◌, ◌≤◌}
-use native.Mathlib.Omega.{arith}
-use lib.ListN.{length, take, drop}
+use Rattle.std.proofs.Common.{◌≡◌, sym, ap, ◌∙◌, subst, ⊎_elim, List, ℕ, ◌+◌, ◌*◌, ◌-◌, ◌≤◌, arith, length, take, drop}
 use borrow.Rule.Slice.PartMut.{put_mid}
 use Rattle.kept.specs.Regions.{strings_region, slots_region, table_words, region}
 use Rattle.kept.proofs.RegionStores.{strings_within, strings_slots, tables_apart}

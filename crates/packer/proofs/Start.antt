@@ -1,18 +1,10 @@
 -- Before the first object: slots that are cleared hold nothing.
-use mathlib.Core.Path.{◌≡◌, refl, sym, ap, ◌∙◌, subst}
-use mathlib.Core.Bool.{Bool, false}
-use mathlib.Core.Logic.{⊎_elim}
-use mathlib.Core.List.{List, []}
-use Prim.Native.Nat.{ℕ, zero, suc, ◌+◌, ◌*◌, ◌-◌, ◌/◌, ◌≤◌}
-use native.Mathlib.Nat.{not-suc-le-zero}
-use native.Mathlib.Omega.{arith}
-use lib.ListN.{length, get_or, replicate}
-use lib.Seq.{length-take-le}
+use Rattle.std.proofs.Common.{◌≡◌, refl, sym, ap, ◌∙◌, subst, Bool, false, ⊎_elim, List, [], ℕ, zero, suc, ◌+◌, ◌*◌, ◌-◌, ◌/◌, ◌≤◌, not-suc-le-zero, arith, length, get_or, replicate, length-take-le}
 use Rattle.std.proofs.lemmas.List.{get_or-drop}
 use Rattle.numbers.specs.Limits.{string_words}
 use Rattle.octets.specs.Octets.{zeros}
 use Rattle.octets.specs.Lists.{those, joined}
-use Rattle.octets.specs.Checked.{pass}
+use Rattle.std.specs.Prelude.{Ok}
 use Rattle.octets.proofs.Placed.{get_d_zeros}
 use Rattle.bundle.specs.Bundle.{Bundle, bundle_of}
 use Rattle.bundle.proofs.Lies.{here_span}
@@ -48,7 +40,7 @@ unfolding kept keep_all
 kept_nothing = refl
 
 bytes_none : (home : ℕ) → unit_bytes [] home ≡ []
-unfolding unit_bytes those joined
+unfolding unit_bytes
 bytes_none home = refl
 
 used_none : all_used [] ≡ []
@@ -59,7 +51,7 @@ abbrev no_table : Table
 no_table = record { rows = 0; has = no_columns }
 
 table_none : (five : Bool) (w slots : List ℕ) (t m : ℕ) → slots ≡ zeros m → TableHeld five w 0 slots t no_table []
-unfolding identities_of of_table records_from those
+unfolding identities_of of_table records_from
 table_none five w slots t m e = record {
   count = refl;
   rows = none;
@@ -80,7 +72,7 @@ held_none five b w n room z =
     (table_none five (region w n records_region) (slots_in w n t (seen_slots n)) t (seen_slots n) (z.slots t o)))
 
 -- the end word lies behind the head
-pub bundle_long : (b : List ℕ) (k : Bundle) → bundle_of b ≡ pass k → 4 ≤ length b
+pub bundle_long : (b : List ℕ) (k : Bundle) → bundle_of b ≡ Ok k → 4 ≤ length b
 bundle_long b k e = let o = objects_none b k e in omega (arith, here_span b 4 o.rest o.left)
 
 -- roots that are zero, as words of the table

@@ -1,9 +1,9 @@
 -- What the functions that file the objects of a bundle require and answer, from the definitions. Nothing here need be believed.
-use Rattle.std.specs.Prelude.{◌≡◌, Bool, false, List, [], ◌∷◌, ◌++◌, ℕ, ◌+◌, ◌*◌, ◌%◌, ◌≤◌, length, drop, Result}
+use Rattle.std.specs.Prelude.{◌≡◌, Bool, false, List, [], ◌∷◌, ◌++◌, ℕ, ◌+◌, ◌*◌, ◌%◌, ◌≤◌, length, drop, Result, Ok}
 use Rattle.numbers.specs.Limits.{bundle_limit, work_for_word}
 use Rattle.octets.specs.Octets.{zeros}
 use Rattle.numbers.specs.declared.refusals.Refusal.{Refusal}
-use Rattle.octets.specs.Checked.{Check, pass, ◌>>=◌}
+use Rattle.octets.specs.Checked.{◌>>=◌}
 use Rattle.bundle.specs.Bundle.{Part, Object, Bundle, items, bundle_of}
 use Rattle.bundle.specs.Scan.{Reaches, sections_of, place_behind, scan_of, offsets_from}
 use Rattle.bundle.specs.declared.Scan.{Scan}
@@ -67,8 +67,8 @@ UnitsAnswered b x from st next w v r =
 
 -- ---- one object
 -- an object and its units, the first refusal first
-abbrev pub object_units : List ℕ → Bool → ℕ → BySection ℕ → List Filed → Object → Check (Input × List Filed)
-object_units b big first bases us o = input_of b big first o >>= λ i. (units_in i bases us [] i.units >>= λ here. pass (i, here))
+abbrev pub object_units : List ℕ → Bool → ℕ → BySection ℕ → List Filed → Object → Result (Input × List Filed) ℕ
+object_units b big first bases us o = input_of b big first o >>= λ i. (units_in i bases us [] i.units >>= λ here. Ok (i, here))
 
 -- its sections as a scan has them
 abbrev pub ScannedFrom : List ℕ → ℕ → Scan → Type 0
@@ -146,7 +146,7 @@ pub record StringRoom (b : List ℕ) (room : ℕ) : Type 0 where
 -- a bundle that can be read, and work that is long enough, with slots and roots that are cleared; the rest of work may hold anything
 pub record Cleared (big : Bool) (b : List ℕ) (room : ℕ) (w : List ℕ) : Type 0 where
   pub bundle : Bundle
-  pub reads : bundle_of b ≡ pass bundle
+  pub reads : bundle_of b ≡ Ok bundle
   pub order : bundle.big ≡ big
   pub whole : length b % 4 ≡ 0
   pub can : Clearable (words_in b) (length w)
@@ -154,8 +154,8 @@ pub record Cleared (big : Bool) (b : List ℕ) (room : ℕ) (w : List ℕ) : Typ
   pub none : NoneHeld (words_in b) room w
 
 -- the refusal, or that all is filed
-abbrev pub ObjectsAre : Bool → List ℕ → List ℕ → Check Filing → Result InProgress Refusal → Type 0
+abbrev pub ObjectsAre : Bool → List ℕ → List ℕ → Result Filing ℕ → Result InProgress Refusal → Type 0
 ObjectsAre big b v c r = Tells (λ st _. AllFiled big b st v) c r
 
 abbrev pub ObjectsAnswered : Bool → List ℕ → List ℕ → Result InProgress Refusal → Type 0
-ObjectsAnswered big b v r = (k : Bundle) → bundle_of b ≡ pass k → ObjectsAre big b v (filing_of b k) r
+ObjectsAnswered big b v r = (k : Bundle) → bundle_of b ≡ Ok k → ObjectsAre big b v (filing_of b k) r

@@ -1,16 +1,8 @@
 -- Chains: none at the start, one row more, and the rows of one place.
-use mathlib.Core.Path.{◌≡◌, refl, sym, ap, ◌∙◌}
-use mathlib.Core.Bool.{Bool, true, false, ◌&&◌}
-use mathlib.Core.Logic.{⊎_elim}
-use mathlib.Core.List.{List, [], ◌∷◌, ◌++◌, append-nil, append_assoc}
-use mathlib.Core.Option.{Option, some, none}
-use Prim.Native.Nat.{ℕ, zero, suc, ◌+◌, ◌-◌, ◌/◌, ◌<◌, ◌≤◌}
-use native.Mathlib.Omega.{arith}
+use Rattle.std.proofs.Common.{◌≡◌, refl, sym, ap, ◌∙◌, Bool, true, false, ◌&&◌, ⊎_elim, List, [], ◌∷◌, ◌++◌, append-nil, append_assoc, ℕ, zero, suc, ◌+◌, ◌-◌, ◌/◌, ◌<◌, ◌≤◌, arith, eqb, length, take, drop, get_or, set, length-set, length-append, length-drop, get_or-set_same, get_or-set_other, length-take-le, eq-eqb, ne_eqb, eqb-true, lt-ltb, le-ltb}
+use Rattle.std.specs.Prelude.{Option, Some, None, Ok, Err, Result}
 use native.Mathlib.Decide.{ℕ_discrete, dec_lt}
-use lib.Dec.{eqb}
-use lib.ListN.{length, take, drop, get_or, set, length-set, length-append, length-drop, get_or-append}
-use lib.Seq.{get_or-set_same, get_or-set_other, length-take-le}
-use borrow.Author.Tests.{eq-eqb, ne_eqb, eqb-true, lt-ltb, le-ltb}
+use lib.ListN.{get_or-append}
 use Rattle.octets.specs.Octets.{zeros}
 use Rattle.octets.specs.Lists.{those}
 use Rattle.octets.proofs.Checks.{known, and_left, true_false}
@@ -21,9 +13,7 @@ use Rattle.index.specs.Index.{Index, Contribution, cell_of}
 use Rattle.index.specs.Rows.{row_numbers, naming, the_one, cell_is, own_place}
 use Rattle.index.specs.Cells.{cell_found}
 use Rattle.std.specs.Prelude as std
-use Rattle.std.specs.Prelude.{Some, None, Ok, Err}
 use Rattle.std.specs.Option.{ok_or, is_some as option_is_some}
-use Rattle.octets.specs.Checked.{Check, refuse}
 use Rattle.numbers.specs.Refused.{told}
 use Rattle.numbers.specs.declared.refusals.Refusal.TheVariants.{NoRow}
 use Rattle.index.specs.Contributed.{Cell}
@@ -40,7 +30,7 @@ chain_kept w v heads j k l same row (x ∷ xs) c =
 
 -- ---- at the start
 pub chained_none : (i : Index) (section heads : ℕ) (w : List ℕ) → heads + i.units ≤ length w → ((h : ℕ) → h < heads → get_or w h 0 ≡ 0) → ChainedTo i section heads w 0
-unfolding word_rows row_numbers those Chain
+unfolding word_rows row_numbers Chain
 chained_none i section heads w r z = record { room = r; chains = z }
 
 -- ---- one row more
@@ -109,8 +99,8 @@ module _ (i : Index) (section heads k : ℕ) (w : List ℕ) (c : ChainedTo i sec
   -- whatever the row's cell is
   by_cell : (o : Option Contribution) → cell_of i (suc k) section ≡ o → ChainedTo i section heads (with_cell w heads (suc k) (cell_found o)) (suc k)
   unfolding with_cell with_row cell_found in_word v next
-  by_cell none p = nowhere (λ h l. ap (in_word h) p)
-  by_cell (some d) p = elim (dec_lt (d.offset / 4) heads) [
+  by_cell None p = nowhere (λ h l. ap (in_word h) p)
+  by_cell (Some d) p = elim (dec_lt (d.offset / 4) heads) [
     | yes l ↦ rw (with_row, lt-ltb (d.offset / 4) heads l) (chained_here (d.offset / 4) l (λ h. ap (in_word h) p))
     | no l ↦ rw (with_row, le-ltb (d.offset / 4) heads (omega arith)) (nowhere (λ h m. ap (in_word h) p ∙ ne_eqb (d.offset / 4) h (λ z. absurd (omega arith))))
   ]
@@ -122,8 +112,8 @@ module _ (i : Index) (section heads k : ℕ) (w : List ℕ) (c : ChainedTo i sec
 -- a row that names the place names its word
 own_in_word : (at size : ℕ) (o : Option Contribution) → cell_is (own_place at size) o ≡ true → in_word (at / 4) o ≡ true
 unfolding cell_is own_place in_word
-own_in_word at size (some c) e = eq-eqb (c.offset / 4) (at / 4) (ap (λ (n : ℕ). n / 4) (eqb-true c.offset at (and_left (eqb c.offset at) (eqb c.size size) e)))
-own_in_word at size none e = absurd (let z : ◌≡◌ {A = Bool} true false = sym e in true_false refl z)
+own_in_word at size (Some c) e = eq-eqb (c.offset / 4) (at / 4) (ap (λ (n : ℕ). n / 4) (eqb-true c.offset at (and_left (eqb c.offset at) (eqb c.size size) e)))
+own_in_word at size None e = absurd (let z : ◌≡◌ {A = Bool} true false = sym e in true_false refl z)
 
 -- so the place is named by those of its word's chain alone
 abbrev pub Named : Index → ℕ → ℕ → ℕ → Bool
@@ -143,7 +133,6 @@ module _ (i : Index) (at size r : ℕ) (rs inner : List ℕ) (rest : those (Name
       (known (Named i at size r))
 
 named_in : (i : Index) (at size : ℕ) (rs : List ℕ) → those (Named i at size) (those (λ r. in_word (at / 4) (cell_of i r info_code)) rs) ≡ those (Named i at size) rs
-unfolding those
 named_in i at size [] = refl
 named_in i at size (r ∷ rs) =
     let inner = those (λ q. in_word (at / 4) (cell_of i q info_code)) rs in
@@ -195,7 +184,7 @@ is_there None e z = true_false refl e
 is_there (Some r) e z = let v : ◌≡◌ {A = ℕ} 0 1 = cc in omega arith
 
 -- what was found is the answer for the rows passed
-abbrev pub Answer : std.Option ℕ → Check ℕ
+abbrev pub Answer : std.Option ℕ → Result ℕ ℕ
 Answer o = told (ok_or o NoRow)
 
 found_told : (o : std.Option ℕ) (rs : List ℕ) → found_is o rs → Answer o ≡ the_one rs
@@ -205,7 +194,7 @@ found_told o (r ∷ []) e = rw e
 found_told o (r ∷ q ∷ rs) e = absurd e
 
 -- a second one makes it none
-several_told : (o : std.Option ℕ) (rs : List ℕ) (r : ℕ) (more : List ℕ) → found_is o rs → (o ≡ None → ⊥) → refuse 15 ≡ the_one (rs ++ (r ∷ more))
+several_told : (o : std.Option ℕ) (rs : List ℕ) (r : ℕ) (more : List ℕ) → found_is o rs → (o ≡ None → ⊥) → Err 15 ≡ the_one (rs ++ (r ∷ more))
 unfolding found_is the_one
 several_told o [] r more e f = absurd (f e)
 several_told o (q ∷ []) r more e f = refl
@@ -221,7 +210,7 @@ module _ (i : Index) (heads : ℕ) (w : List ℕ) (at size : ℕ) (o : std.Optio
   -- the chain has ended
   ended : (passed ahead : List ℕ) → found_is o passed → Chain w heads i.units row ahead → passed ++ those (Named i at size) ahead ≡ naming i at size → row ≡ 0
       → Answer o ≡ the_one (naming i at size)
-  unfolding Chain those
+  unfolding Chain
   ended passed [] f c a e = found_told o passed f ∙ ap the_one (sym (append-nil passed) ∙ a)
   ended passed (x ∷ xs) f c a e = absurd (omega (arith, c.0, c.1))
 
@@ -269,7 +258,7 @@ module _ (i : Index) (heads : ℕ) (w : List ℕ) (at size : ℕ) (o : std.Optio
 
   module _ (s : Step) where
     -- a second row names the place
-    pub walk_second : true ≡ Named i at size row → (o ≡ None → ⊥) → refuse 15 ≡ the_one (naming i at size)
+    pub walk_second : true ≡ Named i at size row → (o ≡ None → ⊥) → Err 15 ≡ the_one (naming i at size)
     walk_second e n =
         several_told o s.passed row (those (Named i at size) s.rest) s.found_is_law n
         ∙ ap (λ (rs : List ℕ). the_one (s.passed ++ rs)) (sym (those_keeps (Named i at size) row s.rest (sym e)))
@@ -302,14 +291,14 @@ module _ (i : Index) (heads : ℕ) (w : List ℕ) (at size : ℕ) (o : std.Optio
 -- ---- a cell as code has it
 pub names_none : (at size : ℕ) (o : Option Contribution) → None ≡ cell_found o → false ≡ cell_is (own_place at size) o
 unfolding cell_found cell_is
-names_none at size none e = refl
-names_none at size (some c) e = absurd (let z : ◌≡◌ {A = ℕ} 0 1 = cc in omega arith)
+names_none at size None e = refl
+names_none at size (Some c) e = absurd (let z : ◌≡◌ {A = ℕ} 0 1 = cc in omega arith)
 
 module _ (at size : ℕ) (v : code.Contribution) where
   pub names_some : (c : Option Contribution) → Some v ≡ cell_found c → (eqb v.offset at && eqb v.size size) ≡ cell_is (own_place at size) c
   unfolding cell_found cell_is own_place
-  names_some (some c) e = let q : v ≡ record { offset = c.offset; size = c.size } = cc in rw q
-  names_some none e = absurd (let z : ◌≡◌ {A = ℕ} 0 1 = cc in omega arith)
+  names_some (Some c) e = let q : v ≡ record { offset = c.offset; size = c.size } = cc in rw q
+  names_some None e = absurd (let z : ◌≡◌ {A = ℕ} 0 1 = cc in omega arith)
 
 -- ---- a row put into its chain
 pub put_none : (w : List ℕ) (heads row : ℕ) (cell : Cell) → cell ≡ None → w ≡ with_cell w heads row cell

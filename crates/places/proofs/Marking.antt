@@ -1,15 +1,8 @@
 -- Parts marked one by one.
-use mathlib.Core.Path.{◌≡◌, refl, sym, ap, ◌∙◌, subst}
-use mathlib.Core.Logic.{inl, inr, ⊎_elim}
-use mathlib.Core.Bool.{Bool, true, false}
-use mathlib.Core.List.{List, [], ◌∷◌, ◌++◌, append_assoc}
-use mathlib.Core.Option.{Option, some, none}
-use Prim.Native.Nat.{ℕ, zero, suc, ◌+◌, ◌<◌, ◌≤◌}
-use native.Mathlib.Omega.{arith}
+use Rattle.std.proofs.Common.{◌≡◌, refl, sym, ap, ◌∙◌, subst, inl, inr, ⊎_elim, Bool, true, false, List, [], ◌∷◌, ◌++◌, append_assoc, ℕ, zero, suc, ◌+◌, ◌<◌, ◌≤◌, arith, eqb, length, get_or, eqb-true, le-leb}
+use Rattle.std.specs.Prelude.{Option, Some, None}
 use native.Mathlib.Decide.{ℕ_discrete, dec_lt}
-use lib.Dec.{eqb}
-use lib.ListN.{length, get_or}
-use borrow.Author.Tests.{eqb-true, eqb-false, le-leb}
+use borrow.Author.Tests.{eqb-false}
 use Rattle.octets.specs.Octets.{placed, zeros}
 use Rattle.octets.proofs.Checks.{known, true_false}
 use Rattle.octets.proofs.Placed.{get_d_zeros, length_placed}
@@ -19,7 +12,6 @@ use Rattle.index.specs.Index.{Index, Contribution, cell_of}
 use Rattle.index.specs.Rows.{row_numbers}
 use Rattle.index.specs.Cells.{cell_found}
 use Rattle.index.specs.Tiles.{not_empty, named_in, named_by, named}
-use Rattle.std.specs.Prelude.{Some, None}
 use Rattle.index.specs.Contributed.{Cell}
 use Rattle.index.specs.declared.cells.Contribution as code
 use Rattle.index.proofs.Tiles.{is_one, one_here, one_later, one_cases, one_none, one_left, one_right, one_either}
@@ -45,8 +37,8 @@ parts_some v n = rw (parts_in, named_in, not_empty, le-leb 1 v.size (omega arith
 
 pub parts_found : (o : Option Contribution) → parts_in (cell_found o) ≡ named_in o
 unfolding parts_in cell_found named_in
-parts_found (some c) = refl
-parts_found none = refl
+parts_found (Some c) = refl
+parts_found None = refl
 
 -- a part more, where nothing starts at its place yet
 module _ (cs : List Contribution) (ms ns : List ℕ) (m : Marks cs ms) (it : Contribution) (sized : 1 ≤ it.size) (fits : it.offset + it.size ≤ length ms)
@@ -187,7 +179,7 @@ module _ (i : Index) (k : ℕ) (cs : List Contribution) where
 
   -- a row clashes, and so do all
   pub row_clashes : (ms₀ ms ns : List ℕ) (row : ℕ) (cell : Cell) (r : Bool) → length ms ≡ length ms₀ → row ≡ k + 1 → row ≤ i.units → cell ≡ cell_found (cell_of i row str_offsets_code)
-      → Marked (parts_in cell ++ (rows_named i k ++ cs)) ms ns r → r ≡ false → Marked (named (some i) ++ cs) ms₀ ns false
+      → Marked (parts_in cell ++ (rows_named i k ++ cs)) ms ns r → r ≡ false → Marked (named (Some i) ++ cs) ms₀ ns false
   unfolding named
   row_clashes ms₀ ms ns row cell r long n l e m t =
       let q : row ≡ suc k = omega arith in
@@ -204,7 +196,7 @@ pub rows_none : (i : Index) (cs : List Contribution) (ms : List ℕ) → Marks c
 unfolding row_numbers named_by
 rows_none i cs ms m = m
 
-pub rows_all : (i : Index) (k : ℕ) (cs : List Contribution) (ms ns : List ℕ) → k ≤ i.units → i.units ≤ k → Marks (rows_named i k ++ cs) ns → Marked (named (some i) ++ cs) ms ns true
+pub rows_all : (i : Index) (k : ℕ) (cs : List Contribution) (ms ns : List ℕ) → k ≤ i.units → i.units ≤ k → Marks (rows_named i k ++ cs) ns → Marked (named (Some i) ++ cs) ms ns true
 unfolding named
 rows_all i k cs ms ns l g m =
     let q : k ≡ i.units = omega arith in

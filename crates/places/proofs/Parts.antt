@@ -1,12 +1,8 @@
 -- The walk over parts that tile a section: 8 of each.
-use mathlib.Core.Path.{◌≡◌, refl, sym, ap, ap₂, ◌∙◌, subst}
-use mathlib.Core.Bool.{true}
-use mathlib.Core.List.{List, [], ◌∷◌}
-use Prim.Native.Nat.{ℕ, ◌+◌, ◌-◌, ◌<◌, ◌≤◌}
-use native.Mathlib.Omega.{arith}
-use lib.ListN.{length, take, drop, get_or}
+use Rattle.std.proofs.Common.{◌≡◌, refl, sym, ap, ap₂, ◌∙◌, subst, true, List, [], ◌∷◌, ℕ, ◌+◌, ◌-◌, ◌<◌, ◌≤◌, arith, length, take, drop, get_or}
 use Rattle.octets.specs.Octets.{part}
-use Rattle.octets.specs.Checked.{Check, pass, refuse, mapped}
+use Rattle.std.specs.Prelude.{Result, Ok, Err}
+use Rattle.octets.specs.Checked.{mapped}
 use Rattle.octets.proofs.Parts.{part_cut}
 use Rattle.bundle.specs.Encoding.{Encoding}
 use Rattle.strings.specs.Strings.{entries_of}
@@ -29,14 +25,14 @@ pub record PartsAhead (e : Encoding) (s ms : List ℕ) (ts : List Contribution) 
 pub record PartHere (e : Encoding) (s ms : List ℕ) (ts : List Contribution) (at : ℕ) : Type 0 where
   pub some : 1 ≤ get_or ms at 0
   pub within : at + get_or ms at 0 ≤ length ms
-  pub stops : (n : ℕ) → entries_of e (part s at (get_or ms at 0)) ≡ refuse n → at ≡ good_end e s ts
-  pub on : (ns : List ℕ) → entries_of e (part s at (get_or ms at 0)) ≡ pass ns → PartsAhead e s ms ts (at + get_or ms at 0)
+  pub stops : (n : ℕ) → entries_of e (part s at (get_or ms at 0)) ≡ Err n → at ≡ good_end e s ts
+  pub on : (ns : List ℕ) → entries_of e (part s at (get_or ms at 0)) ≡ Ok ns → PartsAhead e s ms ts (at + get_or ms at 0)
 
-good_on : (e : Encoding) (s : List ℕ) (t : Contribution) (ts : List Contribution) (ns : List ℕ) → entries_of e (part_of s t) ≡ pass ns → good_end e s (t ∷ ts) ≡ good_end e s ts
+good_on : (e : Encoding) (s : List ℕ) (t : Contribution) (ts : List Contribution) (ns : List ℕ) → entries_of e (part_of s t) ≡ Ok ns → good_end e s (t ∷ ts) ≡ good_end e s ts
 unfolding good_end
 good_on e s t ts ns q = rw (good_end, q)
 
-good_stops : (e : Encoding) (s : List ℕ) (t : Contribution) (ts : List Contribution) (n : ℕ) → entries_of e (part_of s t) ≡ refuse n → good_end e s (t ∷ ts) ≡ t.offset
+good_stops : (e : Encoding) (s : List ℕ) (t : Contribution) (ts : List Contribution) (n : ℕ) → entries_of e (part_of s t) ≡ Err n → good_end e s (t ∷ ts) ≡ t.offset
 unfolding good_end
 good_stops e s t ts n q = rw (good_end, q)
 
@@ -77,10 +73,10 @@ parts_end e s ms ts at p l h = from p.ahead p.tiling p.same
     from (c ∷ cs) t g = absurd (omega (arith, t.1, tiling_end (at + c.size) (length ms) cs t.2))
 
 -- ---- what the code is told of a part that it cuts
-pub read_count : (m : Check (List ℕ)) (n : ℕ) → pass n ≡ mapped length m → (ns : List ℕ) × (m ≡ pass ns)
+pub read_count : (m : Result (List ℕ) ℕ) (n : ℕ) → Ok n ≡ mapped length m → (ns : List ℕ) × (m ≡ Ok ns)
 unfolding mapped
-read_count (pass ns) n q = (ns, refl)
-read_count (refuse k) n q = cc
+read_count (Ok ns) n q = (ns, refl)
+read_count (Err k) n q = cc
 
 pub cut_part : (s : List ℕ) (at n end : ℕ) → end ≡ at + n → take (end - at) (drop at s) ≡ part s at n
 cut_part s at n end e = ap (λ (k : ℕ). take (k - at) (drop at s)) e ∙ part_cut s at n

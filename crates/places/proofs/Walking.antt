@@ -1,20 +1,8 @@
 -- The walk over marks decides 34.
-use mathlib.Core.Path.{◌≡◌, refl, sym, ap, ◌∙◌, subst}
-use mathlib.Core.Logic.{◌⊎◌, inl, inr, ⊎_elim}
-use mathlib.Core.Bool.{true, false}
-use mathlib.Core.List.{List, [], ◌∷◌}
-use mathlib.Core.Option.{Option, some, none}
-use Prim.Native.Nat.{ℕ, suc, ◌+◌, ◌-◌, ◌<◌, ◌≤◌}
-use native.Mathlib.Omega.{arith}
+use Rattle.std.proofs.Common.{◌≡◌, refl, sym, ap, ◌∙◌, subst, ◌⊎◌, inl, inr, ⊎_elim, true, false, List, [], ◌∷◌, ℕ, suc, ◌+◌, ◌-◌, ◌<◌, ◌≤◌, arith, add-one, eqb, length, drop, get_or, drop_of_length-le, drop-cons, eqb-true, eq-eqb, ne_eqb}
+use Rattle.std.specs.Prelude.{Option, Some, None, Ok, Err}
 use native.Mathlib.Decide.{ℕ_discrete}
-use native.Mathlib.Numerals.{add-one}
-use lib.Dec.{eqb}
-use lib.ListN.{length, drop, get_or, drop_of_length-le}
-use lib.Seq.{drop-cons}
-use borrow.Author.Tests.{eqb-true, eq-eqb, ne_eqb}
-use Rattle.std.specs.Prelude.{Some, None}
 use Rattle.octets.specs.Options.{found}
-use Rattle.octets.specs.Checked.{pass, refuse}
 use Rattle.octets.proofs.Checks.{true_false}
 use Rattle.octets.proofs.Refusals.{only_refuses}
 use Rattle.index.specs.Index.{Contribution}
@@ -23,27 +11,27 @@ use Rattle.index.proofs.Tiles.{is_one, one_here, one_later, one_cases, one_none,
 use Rattle.places.specs.Marks.{Marks, Clash, turned, marks_good}
 
 -- ---- turns
-pub turned_start : (left n : ℕ) → left ≡ 0 → (n ≡ 0 → ⊥) → turned left n ≡ some (n - 1)
+pub turned_start : (left n : ℕ) → left ≡ 0 → (n ≡ 0 → ⊥) → turned left n ≡ Some (n - 1)
 unfolding turned
 turned_start left n e f = rw (turned, eq-eqb left 0 e, ne_eqb n 0 f)
 
-pub turned_on : (left n : ℕ) → (left ≡ 0 → ⊥) → n ≡ 0 → turned left n ≡ some (left - 1)
+pub turned_on : (left n : ℕ) → (left ≡ 0 → ⊥) → n ≡ 0 → turned left n ≡ Some (left - 1)
 unfolding turned
 turned_on left n e f = rw (turned, ne_eqb left 0 e, eq-eqb n 0 f)
 
-pub turned_none : (left n : ℕ) → left ≡ 0 → n ≡ 0 → turned left n ≡ none
+pub turned_none : (left n : ℕ) → left ≡ 0 → n ≡ 0 → turned left n ≡ None
 unfolding turned
 turned_none left n e f = rw (turned, eq-eqb left 0 e, eq-eqb n 0 f)
 
-pub turned_inside : (left n : ℕ) → (left ≡ 0 → ⊥) → (n ≡ 0 → ⊥) → turned left n ≡ none
+pub turned_inside : (left n : ℕ) → (left ≡ 0 → ⊥) → (n ≡ 0 → ⊥) → turned left n ≡ None
 unfolding turned
 turned_inside left n e f = rw (turned, ne_eqb left 0 e, ne_eqb n 0 f)
 
-good_on : (left n more : ℕ) (ms : List ℕ) → turned left n ≡ some more → marks_good left (n ∷ ms) ≡ marks_good more ms
+good_on : (left n more : ℕ) (ms : List ℕ) → turned left n ≡ Some more → marks_good left (n ∷ ms) ≡ marks_good more ms
 unfolding marks_good
 good_on left n more ms e = rw (marks_good, e)
 
-good_stops : (left n : ℕ) (ms : List ℕ) → turned left n ≡ none → marks_good left (n ∷ ms) ≡ false
+good_stops : (left n : ℕ) (ms : List ℕ) → turned left n ≡ None → marks_good left (n ∷ ms) ≡ false
 unfolding marks_good
 good_stops left n ms e = rw (marks_good, e)
 
@@ -51,13 +39,13 @@ good_end : (left : ℕ) → marks_good left [] ≡ eqb left 0
 unfolding marks_good
 good_end left = refl
 
-found_some : (o : Option ℕ) (k : ℕ) → Some k ≡ found o → o ≡ some k
-found_some (some n) k e = let q : k ≡ n = cc in rw q
-found_some none k e = absurd (let z : ◌≡◌ {A = ℕ} 0 1 = cc in omega arith)
+found_some : (o : Option ℕ) (k : ℕ) → Some k ≡ found o → o ≡ Some k
+found_some (Some n) k e = let q : k ≡ n = cc in rw q
+found_some None k e = absurd (let z : ◌≡◌ {A = ℕ} 0 1 = cc in omega arith)
 
-found_none : (o : Option ℕ) → None ≡ found o → o ≡ none
-found_none none e = refl
-found_none (some n) e = absurd (let z : ◌≡◌ {A = ℕ} 0 1 = cc in omega arith)
+found_none : (o : Option ℕ) → None ≡ found o → o ≡ None
+found_none None e = refl
+found_none (Some n) e = absurd (let z : ◌≡◌ {A = ℕ} 0 1 = cc in omega arith)
 
 -- of the loop
 pub walk_on : (ms : List ℕ) (i left n more : ℕ) → i < length ms → n ≡ get_or ms i 0 → Some more ≡ found (turned left n) → marks_good left (drop i ms) ≡ marks_good more (drop (i + 1) ms)
@@ -71,7 +59,7 @@ walk_end ms i left h = rw (drop_of_length-le ms h) (good_end left)
 
 -- ---- a turn that passed
 turned_cases : (left n : ℕ)
-    → ((left ≡ 0) × (n ≡ 0 → ⊥) × (turned left n ≡ some (n - 1))) ⊎ ((left ≡ 0 → ⊥) × (n ≡ 0) × (turned left n ≡ some (left - 1))) ⊎ (turned left n ≡ none)
+    → ((left ≡ 0) × (n ≡ 0 → ⊥) × (turned left n ≡ Some (n - 1))) ⊎ ((left ≡ 0 → ⊥) × (n ≡ 0) × (turned left n ≡ Some (left - 1))) ⊎ (turned left n ≡ None)
 turned_cases left n = elim (ℕ_discrete left 0) [
   | yes l ↦ elim (ℕ_discrete n 0) [ yes z ↦ inr (inr (turned_none left n l z)) | no z ↦ inl (l, z, turned_start left n l z) ]
   | no l ↦ elim (ℕ_discrete n 0) [ yes z ↦ inr (inl (l, z, turned_on left n l z)) | no z ↦ inr (inr (turned_inside left n l z)) ]
@@ -205,14 +193,14 @@ module _ (cs : List Contribution) (ms : List ℕ) (m : Marks cs ms) where
 
   -- ---- 34
   module _ (s : List ℕ) (long : length ms ≡ length s) where
-    pub good_pass : marks_good 0 ms ≡ true → (ts : List Contribution) × (tiles cs s ≡ pass ts)
+    pub good_pass : marks_good 0 ms ≡ true → (ts : List Contribution) × (tiles cs s ≡ Ok ts)
     good_pass g = tiled_tiles cs m.some s (subst (Tiled cs) long (facts_tiled cs m.some (length ms) (good_tiles g).0 (good_tiles g).1))
 
-    pub bad_refused : marks_good 0 ms ≡ false → tiles cs s ≡ refuse 34
+    pub bad_refused : marks_good 0 ms ≡ false → tiles cs s ≡ Err 34
     bad_refused g = only_refuses 34 (tiles cs s) (tiles_only cs s) (λ ts q. true_false (tiled_good (subst (Tiled cs) (sym long) (tiles_tiled cs m.some s ts q))) g)
 
 -- parts that clash don't tile
-pub clash_refused : (cs : List Contribution) (s : List ℕ) → ((c : Contribution) → is_one cs c ≡ true → 1 ≤ c.size) → Clash cs (length s) → tiles cs s ≡ refuse 34
+pub clash_refused : (cs : List Contribution) (s : List ℕ) → ((c : Contribution) → is_one cs c ≡ true → 1 ≤ c.size) → Clash cs (length s) → tiles cs s ≡ Err 34
 clash_refused cs s sized k = only_refuses 34 (tiles cs s) (tiles_only cs s) (λ ts q. never (tiles_tiled cs sized s ts q))
   where
     never : Tiled cs (length s) → ⊥

@@ -1,6 +1,5 @@
 -- Chains of rows: the rows that name a place in one word of a section, the last one first.
-use Rattle.std.specs.Prelude.{◌≡◌, Some, None, Bool, true, false, List, [], ◌∷◌, ℕ, ◌+◌, ◌-◌, ◌/◌, ◌<◌, ◌≤◌, length, set, ◌==◌, nat_lt, slice_index, if◌then◌else◌}
-use Rattle.std.proofs.Math.Option.{Option, some, none}
+use Rattle.std.specs.Prelude.{◌≡◌, Some, None, Bool, true, false, List, [], ◌∷◌, ℕ, ◌+◌, ◌-◌, ◌/◌, ◌<◌, ◌≤◌, length, set, ◌==◌, nat_lt, slice_index, if◌then◌else◌, Option}
 use Rattle.octets.specs.Lists.{those}
 use Rattle.index.specs.Index.{Index, Contribution, cell_of}
 use Rattle.index.specs.Rows.{row_numbers}
@@ -8,8 +7,8 @@ use Rattle.index.specs.Contributed.{Cell}
 
 -- a row names a place in that word of the section
 unfoldable pub in_word : ℕ → Option Contribution → Bool
-in_word h (some c) = c.offset / 4 == h
-in_word h none = false
+in_word h (Some c) = c.offset / 4 == h
+in_word h None = false
 
 -- the first k rows that do
 unfoldable pub word_rows : Index → ℕ → ℕ → ℕ → List ℕ

@@ -1,8 +1,5 @@
 -- Marks: for each byte of a section the size of the part that starts there, 0 where none does.
-use Rattle.std.specs.Prelude.{◌≡◌, ◌⊎◌, Bool, true, false, List, [], ◌∷◌, ℕ, ◌+◌, ◌-◌, ◌<◌, ◌≤◌, length, ◌==◌, slice_index, if◌then◌else◌}
-use Rattle.std.specs.Prelude.{Some, None}
-use Rattle.std.proofs.Math.Option.{Option, some, none}
-use Rattle.octets.specs.Checked.{pass, refuse}
+use Rattle.std.specs.Prelude.{◌≡◌, ◌⊎◌, Bool, true, false, List, [], ◌∷◌, ℕ, ◌+◌, ◌-◌, ◌<◌, ◌≤◌, length, ◌==◌, slice_index, if◌then◌else◌, Some, None, Option, Ok, Err}
 use Rattle.bundle.specs.Encoding.{Encoding}
 use Rattle.strings.specs.Strings.{entries_of}
 use Rattle.index.specs.Index.{Contribution}
@@ -16,7 +13,7 @@ Part = Contribution
 
 -- the part that a cell names, where it is not empty
 unfoldable pub parts_in : Cell → List Contribution
-parts_in (Some c) = named_in (some (record { offset = c.offset; size = c.size }))
+parts_in (Some c) = named_in (Some (record { offset = c.offset; size = c.size }))
 parts_in None = []
 
 -- these parts, none of them empty, are marked, and nothing else is
@@ -43,13 +40,13 @@ pub record Marked (cs : List Contribution) (ms ns : List ℕ) (r : Bool) : Type 
 unfoldable pub turned : ℕ → ℕ → Option ℕ
 turned left n =
     if left == 0
-    then if n == 0 then none else some (n - 1)
-    else if n == 0 then some (left - 1) else none
+    then if n == 0 then None else Some (n - 1)
+    else if n == 0 then Some (left - 1) else None
 
 -- from a place on, where so many bytes are left of the part at hand: parts start where one ends, and nowhere else, and the last one ends with the section
 unfoldable pub marks_good : ℕ → List ℕ → Bool
 marks_good left [] = left == 0
-marks_good left (n ∷ ms) = elim (turned left n) [ some more ↦ marks_good more ms | none ↦ false ]
+marks_good left (n ∷ ms) = elim (turned left n) [ Some more ↦ marks_good more ms | None ↦ false ]
 
 -- parts that tile the section, one behind the other, each of the size that is marked at its place
 pub record TiledBy (ms : List ℕ) (ts : List Contribution) : Type 0 where
@@ -59,4 +56,4 @@ pub record TiledBy (ms : List ℕ) (ts : List Contribution) : Type 0 where
 -- where the first of them starts that 8 refuses; the section's end where there is none
 unfoldable pub good_end : Encoding → List ℕ → List Contribution → ℕ
 good_end e s [] = length s
-good_end e s (t ∷ ts) = elim (entries_of e (part_of s t)) [ pass ns ↦ good_end e s ts | refuse n ↦ t.offset ]
+good_end e s (t ∷ ts) = elim (entries_of e (part_of s t)) [ Ok ns ↦ good_end e s ts | Err n ↦ t.offset ]

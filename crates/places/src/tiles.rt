@@ -1,7 +1,6 @@
 // 34, of a package of version 5: the parts of str_offsets that rows name must tile the section. In lent words, one for each byte of the section: the size of
 // the part that starts there, 0 where none does. So one walk over the rows and one over the section decide, in whatever order the rows name their parts.
-ghost use Rattle.std.specs.Prelude.{◌≡◌, List, ◌++◌, ◌<◌, ◌^◌, length};
-ghost use Rattle.std.proofs.Math.Option.{some};
+ghost use Rattle.std.specs.Prelude.{◌≡◌, List, ◌++◌, ◌<◌, ◌^◌, length, Option, Some, None, Ok};
 ghost use Rattle.octets.specs.Options.{found};
 ghost use Rattle.index.specs.Tiles.{named};
 ghost use Rattle.bundle.specs.Encoded.{encoding_is};
@@ -48,7 +47,7 @@ fn mark_part(marks: &mut [u32], cell: Option<Contribution>) -> bool
 // Marks the parts that all rows of an index name. The caller lends a word for each byte of the section.
 pub fn mark_rows(index: &Index, marks: &mut [u32]) -> bool
     requires { length marks.old < 2 ^ 32 }
-    ensures { (cs : List Part) → Marks cs marks.old → Marked (named (some index.now) ++ cs) marks.old marks.new result }
+    ensures { (cs : List Part) → Marks cs marks.old → Marked (named (Some index.now) ++ cs) marks.old marks.new result }
 {
     for row in 1..=index.head().units {
         let cell = index.cell_of(row, STR_OFFSETS);

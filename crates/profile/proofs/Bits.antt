@@ -1,16 +1,8 @@
 -- The bits of the conditions that fail: how a loop adds them up, and that none is set exactly where all conditions hold.
-use mathlib.Core.Path.{◌≡◌, refl, sym, ap, ◌∙◌}
-use mathlib.Core.Bool.{Bool, true, false, not}
+use Rattle.std.proofs.Common.{◌≡◌, refl, sym, ap, ◌∙◌, Bool, true, false, not, List, [], ◌∷◌, ◌++◌, append-nil, append_assoc, ℕ, zero, suc, ◌+◌, ◌*◌, ◌^◌, ◌≤◌, ◌<◌, arith, eqb, length, length-append, pow_pos, ne_eqb}
 use mir.Val.{bool_byte}
-use mathlib.Core.List.{List, [], ◌∷◌, ◌++◌, append-nil, append_assoc}
-use Prim.Native.Nat.{ℕ, zero, suc, ◌+◌, ◌*◌, ◌^◌, ◌≤◌, ◌<◌}
-use native.Mathlib.Omega.{arith}
 use native.Mathlib.Nat.{pow-succ'}
-use lib.Dec.{eqb}
-use lib.ListN.{length, length-append}
 use Rattle.std.specs.List.{push}
-use lib.Pow.{pow_pos}
-use borrow.Author.Tests.{ne_eqb}
 use Rattle.octets.specs.Lists.{all}
 use Rattle.profile.specs.Profile.{failed_bit, failed_bits}
 
@@ -69,7 +61,7 @@ passed_small holds left bits l p = rw p.told (failed_small 8 p.past (omega (arit
 
 -- no bit is set exactly where all hold
 pub failed_none : (cs : List Bool) → eqb (failed_bits cs) 0 ≡ all (λ holds. holds) cs
-unfolding failed_bits failed_bit all
+unfolding failed_bits failed_bit
 failed_none [] = refl
 failed_none (false ∷ cs) = ne_eqb (1 + 2 * failed_bits cs) 0 (λ e. omega arith)
 failed_none (true ∷ cs) = rw (← failed_none cs) (go (failed_bits cs))

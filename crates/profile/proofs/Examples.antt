@@ -1,8 +1,5 @@
 -- The archive profile, as the checker computes it: a package that is in it, one for each condition that fails alone, and what is no package.
-use mathlib.Core.Path.{◌≡◌, refl}
-use mathlib.Core.Bool.{false}
-use mathlib.Core.List.{List, [], ◌∷◌}
-use Prim.Native.Nat.{ℕ}
+use Rattle.std.proofs.Common.{◌≡◌, refl, false, List, [], ◌∷◌, ℕ}
 use Rattle.octets.specs.Checked
 use Rattle.octets.specs.Lists
 use Rattle.octets.specs.Octets
@@ -65,5 +62,5 @@ Examples =
     × Profiled (zeros 4) 21 0
 
 pub examples : Examples
-unfolding Checked.◌>>=◌ Checked.require Checked.renumbered Lists.all Lists.any Lists.has Lists.distinct Lists.zero_together Lists.those Lists.joined Octets.part Octets.little Octets.big_from Octets.number Octets.number_at Octets.numbers_in Octets.little_of Octets.big_of Octets.bytes_of Octets.numbers_of Octets.zeros Bundle.filled_up Bundle.object_step Bundle.section_step Bundle.end_step Bundle.step_of Bundle.step_at Bundle.followed Bundle.items_from Bundle.items Bundle.leading Bundle.objects_of Bundle.object_first Bundle.bundle_of Bundle.length_good Bundle.parts_of Bundle.count Bundle.first_part Bundle.body Encoding.encoding_of Encoding.encoding_good Columns.columns_four Columns.columns_five Columns.columns_of Index.version_of Index.columns_most Index.code_good Index.power_from Index.least_power Index.slots_good Index.layout Index.index_of Lookup.codes Lookup.package_index Lookup.object_judged Lookup.objects_judged Lookup.package_of Lookup.has_version is_there has_row conditions profiled failed_bit failed_bits failed
+unfolding Checked.◌>>=◌ Checked.require Checked.renumbered Lists.has Lists.distinct Lists.zero_together Octets.part Octets.little Octets.big_from Octets.number Octets.number_at Octets.numbers_in Octets.little_of Octets.big_of Octets.bytes_of Octets.numbers_of Octets.zeros Bundle.filled_up Bundle.object_step Bundle.section_step Bundle.end_step Bundle.step_of Bundle.step_at Bundle.followed Bundle.items_from Bundle.items Bundle.leading Bundle.objects_of Bundle.object_first Bundle.bundle_of Bundle.length_good Bundle.parts_of Bundle.count Bundle.first_part Bundle.body Encoding.encoding_of Encoding.encoding_good Columns.columns_four Columns.columns_five Columns.columns_of Index.version_of Index.columns_most Index.code_good Index.power_from Index.least_power Index.slots_good Index.layout Index.index_of Lookup.codes Lookup.package_index Lookup.object_judged Lookup.objects_judged Lookup.package_of Lookup.has_version is_there has_row conditions profiled failed_bit failed_bits failed
 examples = ((refl, refl), (refl, refl), (refl, refl), (refl, refl), (refl, refl), (refl, refl), (refl, refl), (refl, refl), (refl, refl), (refl, refl), (refl, refl), (refl, refl), (refl, refl), (refl, refl))

@@ -1,16 +1,7 @@
 -- The verdict from what the code holds: the conditions by the head are the definition's, and the bits decide.
-use mathlib.Core.Path.{◌≡◌, refl, ap, ◌∙◌}
-use mathlib.Core.Bool.{Bool, true, false, not, ◌&&◌, ◌||◌}
+use Rattle.std.proofs.Common.{◌≡◌, refl, ap, ◌∙◌, Bool, true, false, not, ◌&&◌, ◌||◌, List, ⊎_elim, ℕ, arith, eqb, ltb, length, lt-ltb, eqb-true}
 use mir.Val.{bool_byte}
-use mathlib.Core.List.{List}
-use mathlib.Core.Logic.{⊎_elim}
-use mathlib.Core.Option.{Option, some, none}
-use Prim.Native.Nat.{ℕ}
-use native.Mathlib.Omega.{arith}
-use lib.Dec.{eqb, ltb}
-use lib.ListN.{length}
-use borrow.Author.Tests.{lt-ltb, eqb-true}
-use Rattle.octets.specs.Checked.{pass, refuse}
+use Rattle.std.specs.Prelude.{Option, if◌then◌else◌, Some, None, Ok, Err}
 use Rattle.octets.proofs.Checks.{and_left, and_right}
 use Rattle.bundle.specs.Encoding.{Encoding, encoding_good}
 use Rattle.bundle.specs.Scan.{scan_of, by_code, numbered}
@@ -26,7 +17,6 @@ use Rattle.profile.specs.Profile.{is_there, has_row, conditions, profiled, faile
 use Rattle.profile.specs.Judged.{present_in, row_in, conditions_in, judged}
 use Rattle.profile.proofs.Bits.{failed_none}
 use Rattle.profile.proofs.Objects.{Without, With, package_object}
-use Rattle.std.specs.Prelude.{if◌then◌else◌}
 
 -- ---- each condition that the head has in another form
 width_four : (w : ℕ) → (eqb w 4 || eqb w 8) ≡ true → not (eqb w 8) ≡ eqb w 4
@@ -45,7 +35,7 @@ four_or_eight e g =
     let w = eqb e.width 4 || eqb e.width 8 in
     and_right v w (and_left (v && w) (eqb e.address 4 || eqb e.address 8) g)
 
-narrow : (p : List ℕ) (k : Package) → package_of p ≡ pass k → (ltb 8 (length p) && not (eqb k.encoding.width 8)) ≡ eqb k.encoding.width 4
+narrow : (p : List ℕ) (k : Package) → package_of p ≡ Ok k → (ltb 8 (length p) && not (eqb k.encoding.width 8)) ≡ eqb k.encoding.width 4
 narrow p k e = ⊎_elim
     (λ (h : Without p k). rw (h.long, h.none))
     (λ (h : With p k). rw (lt-ltb 8 (length p) h.long) (width_four k.encoding.width (four_or_eight k.encoding h.good)))
@@ -53,15 +43,15 @@ narrow p k e = ⊎_elim
 
 present_is : (o : Option Index) → present_in (indexed o) ≡ is_there o
 unfolding indexed is_there
-present_is (some i) = refl
-present_is none = refl
+present_is (Some i) = refl
+present_is None = refl
 
 row_is : (o : Option Index) → row_in (indexed o) ≡ has_row o
 unfolding indexed has_row
-row_is (some i) = refl
-row_is none = refl
+row_is (Some i) = refl
+row_is None = refl
 
-conditions_are : (p : List ℕ) (k : Package) → package_of p ≡ pass k → conditions_in (ltb 8 (length p)) (head_in k) ≡ conditions k
+conditions_are : (p : List ℕ) (k : Package) → package_of p ≡ Ok k → conditions_in (ltb 8 (length p)) (head_in k) ≡ conditions k
 unfolding conditions head_in coded scan_of by_code numbered
 conditions_are p k e = rw (narrow p k e, present_is k.cu_index, has_indexed 5 k.cu_index, row_is k.cu_index)
 
@@ -71,13 +61,13 @@ code_is true = refl
 code_is false = refl
 
 module _ (p : List ℕ) where
-  pub judged_bad : (n : ℕ) → refuse n ≡ opened (package_of p) → record { code = n; failed = 0 } ≡ judged p
+  pub judged_bad : (n : ℕ) → Err n ≡ opened (package_of p) → record { code = n; failed = 0 } ≡ judged p
   unfolding judged profiled failed opened
   judged_bad n e =
       let f = of_refuse head_in (package_of p) n e in
       rw (judged, profiled, failed, f, package_refused p n f)
 
-  pub judged_good : (h : PackageHead) → pass h ≡ opened (package_of p) → (object : Bool) → object ≡ ltb 8 (length p) → (bits code : ℕ) → bits ≡ failed_bits (conditions_in object h) → code ≡ bool_byte (not (eqb bits 0))
+  pub judged_good : (h : PackageHead) → Ok h ≡ opened (package_of p) → (object : Bool) → object ≡ ltb 8 (length p) → (bits code : ℕ) → bits ≡ failed_bits (conditions_in object h) → code ≡ bool_byte (not (eqb bits 0))
       → record { code = code; failed = bits } ≡ judged p
   unfolding judged profiled failed
   judged_good h e object same bits code sums c =

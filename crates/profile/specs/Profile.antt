@@ -1,23 +1,21 @@
 -- The archive profile: which packages the archive group takes. Any other well formed package is not in it, and a bad one is 21.
-use Rattle.std.specs.Prelude.{Bool, true, false, not, List, [], ◌∷◌, ℕ, ◌+◌, ◌*◌, ◌==◌, if◌then◌else◌}
-use Rattle.std.proofs.Math.Option.{Option, some, none}
+use Rattle.std.specs.Prelude.{Bool, true, false, not, List, [], ◌∷◌, ℕ, ◌+◌, ◌*◌, ◌==◌, if◌then◌else◌, Option, Some, None, Ok, Err}
 use Rattle.numbers.specs.Sections.{macro_code}
 use Rattle.numbers.specs.Tables.{dwarf5, index5}
 use Rattle.numbers.specs.Refusals.{bad_package}
-use Rattle.octets.specs.Checked.{pass, refuse}
 use Rattle.octets.specs.Lists.{all}
 use Rattle.bundle.specs.Bundle.{count}
 use Rattle.index.specs.Index.{Index}
 use Rattle.lookup.specs.Lookup.{Package, package_of, has_version}
 
 unfoldable pub is_there : Option Index → Bool
-is_there (some i) = true
-is_there none = false
+is_there (Some i) = true
+is_there None = false
 
 -- at least one row, with or without a slot
 unfoldable pub has_row : Option Index → Bool
-has_row (some i) = not (i.units == 0)
-has_row none = true
+has_row (Some i) = not (i.units == 0)
+has_row None = true
 
 -- What the profile asks of a package, in its order. A cu_index that is missing fails the sixth alone, a package without an object
 -- has no version, no offset width and no address size. Nothing is asked of tu_index.
@@ -40,7 +38,7 @@ conditions k =
 unfoldable pub profiled : List ℕ → ℕ
 profiled p =
     elim (package_of p)
-    [ pass k ↦ if all (λ holds. holds) (conditions k) then 0 else 1 | refuse n ↦ bad_package ]
+    [ Ok k ↦ if all (λ holds. holds) (conditions k) then 0 else 1 | Err n ↦ bad_package ]
 
 -- a bit for each condition that fails, the first one's the least
 unfoldable pub failed_bit : Bool → ℕ
@@ -53,4 +51,4 @@ failed_bits (c ∷ cs) = failed_bit c + 2 * failed_bits cs
 
 -- which conditions fail; none are told of a bad package
 unfoldable pub failed : List ℕ → ℕ
-failed p = elim (package_of p) [ pass k ↦ failed_bits (conditions k) | refuse n ↦ 0 ]
+failed p = elim (package_of p) [ Ok k ↦ failed_bits (conditions k) | Err n ↦ 0 ]

@@ -1,15 +1,9 @@
 -- A file that was written of sections is read as a bundle of one object with these sections.
-use mathlib.Core.Path.{◌≡◌, refl, sym, ap, ap₂, ◌∙◌}
-use mathlib.Core.Bool.{Bool, true, false, ◌||◌}
-use mathlib.Core.List.{List, [], ◌∷◌, ◌++◌, map, append_assoc}
-use Prim.Native.Nat.{ℕ, suc, ◌+◌, ◌*◌, ◌-◌, ◌^◌, ◌≤◌, ◌<◌}
-use native.Mathlib.Omega.{arith}
-use lib.Dec.{eqb, leb}
-use lib.ListN.{length, get_or, length-append}
-use borrow.Author.Tests.{le-leb}
+use Rattle.std.proofs.Common.{◌≡◌, refl, sym, ap, ap₂, ◌∙◌, Bool, true, false, ◌||◌, List, [], ◌∷◌, ◌++◌, map, append_assoc, ℕ, suc, ◌+◌, ◌*◌, ◌-◌, ◌^◌, ◌≤◌, ◌<◌, arith, eqb, leb, length, get_or, length-append, le-leb}
 use Rattle.octets.specs.Octets.{part, little, big_from, number, number_at, zeros}
 use Rattle.octets.specs.Lists.{joined, all, any, those}
-use Rattle.octets.specs.Checked.{pass, refuse, mapped}
+use Rattle.std.specs.Prelude.{Ok, Err}
+use Rattle.octets.specs.Checked.{mapped}
 use Rattle.octets.proofs.Checks.{and_both}
 use Rattle.octets.proofs.Lists.{all_cons, any_cons, any_stops, those_skips}
 use Rattle.octets.proofs.Parts.{part_middle}
@@ -42,7 +36,7 @@ use Rattle.round_trip.proofs.Front.{Identified, identified, ordered, front_is, s
 -- ---- the last header
 last_head : (table : ℕ) (ss : List Section) (i name at : ℕ)
     → (j : ℕ) × (n : ℕ) × (get_or (heads table i name at ss) (length ss) no_header ≡ plain j n string_table (at + length (bodies ss)) table)
-unfolding heads bodies joined
+unfolding heads bodies
 last_head table [] i name at = let e : at ≡ at + 0 = omega arith in (i, name, ap (λ (k : ℕ). plain i name string_table k table) e)
 last_head table (s ∷ ss) i name at =
     let r = last_head table ss (i + 1) (name + length (section_name s.code) + 1) (at + length s.bytes) in
@@ -186,7 +180,7 @@ module _ (big : Bool) (machine : ℕ) (fm : machine < 256 ^ 2) (ss : List Sectio
   abbrev file : File
   file = record { big = big; headers = null ∷ hs; names = T }
 
-  opened : file_of f ≡ pass file
+  opened : file_of f ≡ Ok file
   opened =
       let fa : at < 256 ^ 8 = omega (arith, at_short) in
       let fn : n < 256 ^ 2 = omega (arith, good.few) in
@@ -200,7 +194,7 @@ module _ (big : Bool) (machine : ℕ) (fm : machine < 256 ^ 2) (ss : List Sectio
       (states_place big machine at n fm fa fn f rest behind_front) (states_count big machine at n fm fa fn f rest behind_front) (omega (arith, file_length))
       (states_table big machine at n fm fa fn f rest behind_front) (omega arith))
       ∙ sym (names_there f big at n t table_inside)
-      ∙ ap₂ (λ (xs : List Header) (z : List ℕ). pass (record { big = big; headers = xs; names = z })) headers_are names_are
+      ∙ ap₂ (λ (xs : List Header) (z : List ℕ). Ok (record { big = big; headers = xs; names = z })) headers_are names_are
 
   the_list : Listed T f hs ss
   unfolding name_table
@@ -217,7 +211,7 @@ module _ (big : Bool) (machine : ℕ) (fm : machine < 256 ^ 2) (ss : List Sectio
   skip_null : those (is_wanted T) (null ∷ hs) ≡ those (is_wanted T) hs
   skip_null = those_skips (is_wanted T) null hs (unwanted T null null_code)
 
-  is_elf : pass file ≡ elf_of f
+  is_elf : Ok file ≡ elf_of f
   unfolding wanted_of
   is_elf = elf_good f file (sym opened)
       (and_both (all (ended T) (null ∷ hs)) (all (inside f) (those (is_wanted T) (null ∷ hs))) (all_cons (ended T) null hs null_ended ∙ wanted.all_ended T f the_list)
@@ -245,21 +239,21 @@ module _ (big : Bool) (machine : ℕ) (fm : machine < 256 ^ 2) (ss : List Sectio
   all_short = ap (all short_enough) sections_are ∙ short_all ss good.short
     where
       short_all : (xs : List Section) → Every (λ s. length s.bytes ≤ section_limit) xs → all short_enough xs ≡ true
-      short_all [] e = unfold all in refl
+      short_all [] e = refl
       short_all (x ∷ xs) (also h e) = all_cons short_enough x xs (unfold short_enough in le-leb (length x.bytes) section_limit h) ∙ short_all xs e
 
-  pub file_read : (word : ℕ) → pass word ≡ mapped object_word (unit_stated big (bytes_in ss info_code)) → length (written big (record { word = word; sections = ss } ∷ [])) ≤ package_limit
-      → bundle_read (file_bytes big machine ss) ≡ pass (written big (record { word = word; sections = ss } ∷ []))
+  pub file_read : (word : ℕ) → Ok word ≡ mapped object_word (unit_stated big (bytes_in ss info_code)) → length (written big (record { word = word; sections = ss } ∷ [])) ≤ package_limit
+      → bundle_read (file_bytes big machine ss) ≡ Ok (written big (record { word = word; sections = ss } ∷ []))
   unfolding one_object
   file_read word u h =
       ap bundle_read file_is
       ∙ sym (read_from f file is_elf)
       ∙ sym (from_word f file are_readable (bytes_in ss info_code) info_is word u)
       ∙ word_pass f file word all_short (omega (arith, ap (λ (xs : List Section). length (one_object big word xs)) sections_are, h))
-      ∙ ap (λ (xs : List Section). pass (one_object big word xs)) sections_are
+      ∙ ap (λ (xs : List Section). Ok (one_object big word xs)) sections_are
 
   -- without info there is no unit to state the object word
-  pub file_unread : bytes_in ss info_code ≡ [] → bundle_read (file_bytes big machine ss) ≡ refuse no_unit
+  pub file_unread : bytes_in ss info_code ≡ [] → bundle_read (file_bytes big machine ss) ≡ Err no_unit
   file_unread e =
       ap bundle_read file_is
       ∙ sym (read_from f file is_elf)

@@ -1,12 +1,5 @@
 -- The headers of a written file, header by header: each section's has the section's code and bytes, and the name table's is the last.
-use mathlib.Core.Path.{◌≡◌, refl, sym, ap, ◌∙◌}
-use mathlib.Core.Bool.{true, ◌||◌}
-use mathlib.Core.List.{List, [], ◌∷◌, ◌++◌, append_assoc, append-nil}
-use Prim.Native.Nat.{ℕ, ◌+◌, ◌≤◌}
-use native.Mathlib.Omega.{arith}
-use lib.Dec.{eqb, leb}
-use lib.ListN.{length, length-append}
-use borrow.Author.Tests.{le-leb}
+use Rattle.std.proofs.Common.{◌≡◌, refl, sym, ap, ◌∙◌, true, ◌||◌, List, [], ◌∷◌, ◌++◌, append_assoc, append-nil, ℕ, ◌+◌, ◌≤◌, arith, eqb, leb, length, length-append, le-leb}
 use Rattle.octets.specs.Octets.{part}
 use Rattle.octets.specs.Lists.{joined, has}
 use Rattle.octets.proofs.Checks.{or_right}
@@ -56,7 +49,7 @@ further p x y z = behind p x y z ∙ sym (append_assoc p x (y ++ z))
 module _ (names f : List ℕ) (table : ℕ) where
   pub listed : (ss : List Section) (p q r : List ℕ) (i name at : ℕ) → Every Named ss → names ≡ p ++ (names_in ss ++ ended_name table_name) → length p ≡ name
       → f ≡ q ++ (bodies ss ++ r) → length q ≡ at → Listed names f (heads table i name at ss) ss
-  unfolding heads joined bodies
+  unfolding heads bodies
   listed [] p q r i name at e a l b m =
       let h = plain i name string_table at table in
       last (code_there names p (ended_name table_name) h a l 0 table_unnamed) (ended_there names p (ended_name table_name) h a l table_name [] (sym (append-nil (ended_name table_name)))) refl

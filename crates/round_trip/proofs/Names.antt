@@ -1,14 +1,5 @@
 -- The name table: each name is found at its place, and gives its section's code.
-use mathlib.Core.Path.{◌≡◌, refl, sym, ap, ◌∙◌, subst}
-use mathlib.Core.Logic.{⊎_elim}
-use mathlib.Core.Bool.{true}
-use mathlib.Core.List.{List, [], ◌∷◌, ◌++◌, map}
-use Prim.Native.Nat.{ℕ, ◌+◌, ◌*◌, ◌≤◌, ◌<◌}
-use native.Mathlib.Omega.{arith}
-use lib.Dec.{eqb, ltb}
-use lib.ListN.{length, drop, length-append}
-use lib.Seq.{drop_at}
-use borrow.Author.Tests.{eqb-true, ltb-true}
+use Rattle.std.proofs.Common.{◌≡◌, refl, sym, ap, ◌∙◌, subst, ⊎_elim, true, List, [], ◌∷◌, ◌++◌, map, ℕ, ◌+◌, ◌*◌, ◌≤◌, ◌<◌, arith, eqb, ltb, length, drop, length-append, drop_at, eqb-true, ltb-true}
 use Rattle.octets.specs.Lists.{joined, all, any, has, same}
 use Rattle.octets.proofs.Checks.{true_false, or_left, or_right}
 use Rattle.octets.proofs.Lists.{any_append, any_cases}
@@ -27,17 +18,16 @@ abbrev pub names_in : List Section → List ℕ
 names_in ss = joined (map (λ (s : Section). ended_name (section_name s.code)) ss)
 
 pub names_more : (s : Section) (ss : List Section) → length (names_in (s ∷ ss)) ≡ length (section_name s.code) + 1 + length (names_in ss)
-unfolding joined
 names_more s ss = length-append (ended_name (section_name s.code)) (names_in ss) ∙ omega (arith, length_ended (section_name s.code))
 
 pub bodies_more : (s : Section) (ss : List Section) → length (bodies (s ∷ ss)) ≡ length s.bytes + length (bodies ss)
-unfolding bodies joined
+unfolding bodies
 bodies_more s ss = length-append s.bytes (bodies ss)
 
 -- ---- the code of a name
 -- what holds of each code holds of one of them
 one_of : {P : ℕ → Type 0} (c : ℕ) (cs : List ℕ) → Every P cs → has cs c ≡ true → P c
-unfolding has any
+unfolding has
 one_of c [] e h = absurd (true_false h refl)
 one_of {P} c (d ∷ cs) (also x e) h = ⊎_elim (λ (t : eqb c d ≡ true). subst P (sym (eqb-true c d t)) x) (λ t. one_of c cs e t) (any_cases (eqb c) d cs h)
 
@@ -73,7 +63,7 @@ module _ (names p x : List ℕ) (h : Header) (e : names ≡ p ++ x) (l : length 
   code_there c g = ap (code_among (drop 1 section_names) 1) name_there ∙ g
 
   pub ended_there : (name rest : List ℕ) → x ≡ ended_name name ++ rest → ended names h ≡ true
-  unfolding ended ended_name any
+  unfolding ended ended_name
   ended_there name rest g =
       ap (any (eqb 0)) (name_there ∙ g)
       ∙ any_append (eqb 0) (name ++ (0 ∷ [])) rest
@@ -82,18 +72,17 @@ module _ (names p x : List ℕ) (h : Header) (e : names ≡ p ++ x) (l : length 
 
 -- ---- how long
 code_below : (c : ℕ) → has codes c ≡ true → c < 14
-unfolding codes all
+unfolding codes
 code_below c h =
     let r = at_has codes c h in
     ltb-true c 14 (ap (λ (k : ℕ). ltb k 14) (sym r.2) ∙ all_at (λ (k : ℕ). ltb k 14) 0 codes r.0 refl r.1)
 
 pub names_most : (ss : List Section) → Every (λ s. has codes s.code ≡ true) ss → length (names_in ss) ≤ 23 * length ss
-unfolding joined
 names_most [] e = omega arith
 names_most (s ∷ ss) (also h e) = omega (arith, names_more s ss, names_most ss e, name_short s.code (code_below s.code h))
 
 pub bodies_most : (ss : List Section) → Every (λ s. length s.bytes ≤ section_limit) ss → length (bodies ss) ≤ section_limit * length ss
-unfolding bodies joined
+unfolding bodies
 bodies_most [] e = omega arith
 bodies_most (s ∷ ss) (also h e) = omega (arith, bodies_more s ss, bodies_most ss e, h)
 

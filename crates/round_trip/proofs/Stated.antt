@@ -1,17 +1,10 @@
 -- The encoding that the first unit of info states is the one that it was read in.
-use mathlib.Core.Path.{◌≡◌, refl, sym, ap, ◌∙◌, subst}
-use mathlib.Core.Logic.{⊎_elim}
-use mathlib.Core.Bool.{Bool, true, false, ◌&&◌, ◌||◌}
-use mathlib.Core.List.{List, ◌++◌}
-use Prim.Native.Nat.{ℕ, ◌+◌, ◌≤◌, ◌<◌}
-use native.Mathlib.Omega.{arith}
+use Rattle.std.proofs.Common.{◌≡◌, refl, sym, ap, ◌∙◌, subst, ⊎_elim, Bool, true, false, ◌&&◌, ◌||◌, List, ◌++◌, ℕ, ◌+◌, ◌≤◌, ◌<◌, arith, eqb, leb, length, take, get_or, length-append, take_at, length-take-le, eqb-true, ne_eqb, leb-true, ltb-true}
 use native.Mathlib.Decide.{dec_le}
-use lib.Dec.{eqb, leb}
-use lib.ListN.{length, take, get_or, length-append}
-use lib.Seq.{take-append-le, take_at, take-length, length-take-le}
-use borrow.Author.Tests.{eqb-true, ne_eqb, leb-true, ltb-true}
+use lib.Seq.{take-append-le, take-length}
 use Rattle.octets.specs.Octets.{number_at}
-use Rattle.octets.specs.Checked.{pass, mapped}
+use Rattle.std.specs.Prelude.{Ok}
+use Rattle.octets.specs.Checked.{mapped}
 use Rattle.octets.proofs.Checks.{bind_pass, then_pass, require_pass, pass_refuse, and_both, and_left, and_right, or_cases}
 use Rattle.bundle.specs.Encoding.{Encoding, encoding_good}
 use Rattle.bundle.specs.InitialLength.{marked, length_field, length_stated}
@@ -28,7 +21,7 @@ use Rattle.elf.proofs.FirstUnit.{good_version}
 -- ---- the size, in a section that goes on
 -- with the width that it states
 pub record Sized (e : Encoding) (s : List ℕ) (n : ℕ) : Type 0 where
-  pub inside : unit_inside e s ≡ pass n
+  pub inside : unit_inside e s ≡ Ok n
   pub width : width_stated e.big s ≡ e.width
 
 -- a length that starts as the width wants it states the width
@@ -50,12 +43,12 @@ width_stated_law e s g h =
     unmarked : (big : Bool) (s : List ℕ) → number_at big 4 s 0 < 0xFFFF_FFF0 → marked big s ≡ false
     unmarked big s l = unfold marked in ne_eqb (number_at big 4 s 0) 0xFFFF_FFFF (λ z. omega arith)
 
-pub sized : (e : Encoding) (u rest : List ℕ) (n : ℕ) → encoding_good e ≡ true → unit_inside e u ≡ pass n → Sized e (u ++ rest) n
+pub sized : (e : Encoding) (u rest : List ℕ) (n : ℕ) → encoding_good e ≡ true → unit_inside e u ≡ Ok n → Sized e (u ++ rest) n
 unfolding unit_inside fits
 sized e u rest n g q =
     let a = bind_pass (unit_size e u) (fits u) n q in
     let m = a.0 in
-    let b = require_pass (leb m (length u)) 11 (λ _. pass m) n a.2 in
+    let b = require_pass (leb m (length u)) 11 (λ _. Ok m) n a.2 in
     let fit = leb-true m (length u) b.0 in
     let field = size_field e u m a.1 in
     let front : take (length u) u ≡ take (length u) (u ++ rest) = take-length u ∙ sym (take_at u rest (length u) refl) in
@@ -73,7 +66,7 @@ pub record Header (e : Encoding) (u : List ℕ) : Type 0 where
   pub whole : header_size e (kind_of e 1 u) ≤ length u
 
 module _ (e : Encoding) (a s : List ℕ) (r : UnitRead) (n : ℕ) where
-  header_read : behind_size e 1 a s n ≡ pass r → Header e (take n s)
+  header_read : behind_size e 1 a s n ≡ Ok r → Header e (take n s)
   unfolding behind_size fields_good
   header_read q =
       let u = take n s in
@@ -125,15 +118,15 @@ module _ (e : Encoding) (s : List ℕ) (n : ℕ) (g : encoding_good e ≡ true) 
       ∙ and_left (eqb e.version 4 || eqb e.version 5) (eqb e.width 4 || eqb e.width 8)
       (and_left ((eqb e.version 4 || eqb e.version 5) && (eqb e.width 4 || eqb e.width 8)) (eqb e.address 4 || eqb e.address 8) g)
 
-  pub stated : pass (object_word e) ≡ mapped object_word (unit_stated e.big s)
+  pub stated : Ok (object_word e) ≡ mapped object_word (unit_stated e.big s)
   unfolding word_with object_word with_address
   stated =
-      ap (λ (k : ℕ). pass (object_word (with_address e k))) (sym address_is)
+      ap (λ (k : ℕ). Ok (object_word (with_address e k))) (sym address_is)
       ∙ ap (word_with e) (alone_whole e s n z.inside h.fields h.whole)
       ∙ good_version e.big s e own good
 
 -- a unit that was read alone, at the front of a section
-pub unit_stated_law : (e : Encoding) (a u rest : List ℕ) (r : UnitRead) → encoding_good e ≡ true → unit_of e 1 a u ≡ pass r → pass (object_word e) ≡ mapped object_word (unit_stated e.big (u ++ rest))
+pub unit_stated_law : (e : Encoding) (a u rest : List ℕ) (r : UnitRead) → encoding_good e ≡ true → unit_of e 1 a u ≡ Ok r → Ok (object_word e) ≡ mapped object_word (unit_stated e.big (u ++ rest))
 unit_stated_law e a u rest r g q =
     let k = bind_pass (unit_inside e u) _ r (sym (unit_is e 1 a u) ∙ q) in
     let n = k.0 in

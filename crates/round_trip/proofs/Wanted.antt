@@ -1,13 +1,5 @@
 -- Of listed headers the wanted ones are the sections', in order; they are readable, and their info is the sections' info.
-use mathlib.Core.Path.{◌≡◌, refl, sym, ap, ap₂, ◌∙◌}
-use mathlib.Core.Logic.{⊎_elim}
-use mathlib.Core.Bool.{true, false, not, ◌&&◌, ◌||◌}
-use mathlib.Core.List.{List, [], ◌∷◌, map}
-use Prim.Native.Nat.{ℕ, ◌/◌, ◌%◌}
-use native.Mathlib.Omega.{arith}
-use lib.Dec.{eqb, leb}
-use lib.ListN.{length}
-use borrow.Author.Tests.{eq-eqb, ne_eqb, leb-true}
+use Rattle.std.proofs.Common.{◌≡◌, refl, sym, ap, ap₂, ◌∙◌, ⊎_elim, true, false, not, ◌&&◌, ◌||◌, List, [], ◌∷◌, map, ℕ, ◌/◌, ◌%◌, arith, eqb, leb, length, eq-eqb, ne_eqb, leb-true}
 use Rattle.octets.specs.Lists.{all, any, those, has}
 use Rattle.octets.proofs.Checks.{true_false, and_both, known, not_left}
 use Rattle.octets.proofs.Lists.{all_cons, any_cons, those_keeps, those_skips}
@@ -23,7 +15,7 @@ use Rattle.elf.proofs.Judged.{wanted, unwanted}
 use Rattle.round_trip.proofs.Listed.{Named, Shows, Listed, last, next}
 
 named_some : (c : ℕ) → has codes c ≡ true → c ≡ 0 → ⊥
-unfolding has any codes
+unfolding has codes
 named_some c h z = true_false (ap (has codes) (sym z) ∙ h) refl
 
 module _ (names f : List ℕ) where
@@ -32,13 +24,12 @@ module _ (names f : List ℕ) where
 
   -- ---- all of them
   pub all_ended : {hs : List Header} {ss : List Section} → Listed names f hs ss → all (ended names) hs ≡ true
-  unfolding all
   all_ended (last {h} c e t) = all_cons (ended names) h [] e
   all_ended (next {h} {hs} n r l) = all_cons (ended names) h hs r.ends ∙ all_ended l
 
   -- none of them relocates
   pub none_relocates : {hs : List Header} {ss : List Section} → Listed names f hs ss → (g : Header) → any (relocates g) hs ≡ false
-  unfolding any relocates
+  unfolding relocates
   none_relocates (last {h} c e t) g =
       any_cons (relocates g) h [] (not_left (eqb h.type 4 || eqb h.type 9) (eqb h.info g.number) (ap (λ (k : ℕ). eqb k 4 || eqb k 9) t))
   none_relocates (next {h} {hs} n r l) g =
@@ -46,11 +37,9 @@ module _ (names f : List ℕ) where
 
   -- ---- the wanted ones
   last_skipped : (h : Header) → code_of names h ≡ 0 → those (is_wanted names) (h ∷ []) ≡ []
-  unfolding those
   last_skipped h c = those_skips (is_wanted names) h [] (unwanted names h c)
 
   pub all_inside : {hs : List Header} {ss : List Section} → Listed names f hs ss → all (inside f) (those (is_wanted names) hs) ≡ true
-  unfolding all
   all_inside (last {h} c e t) = ap (all (inside f)) (last_skipped h c)
   all_inside (next {h} {hs} {s} n r l) =
       let w = those (is_wanted names) hs in
@@ -65,7 +54,6 @@ module _ (names f : List ℕ) where
 
   pub all_readable : (whole : List Header) → ((g : Header) → any (relocates g) whole ≡ false) → {hs : List Header} {ss : List Section} → Listed names f hs ss
       → all (readable whole) (those (is_wanted names) hs) ≡ true
-  unfolding all
   all_readable whole none (last {h} c e t) = ap (all (readable whole)) (last_skipped h c)
   all_readable whole none (next {h} {hs} {s} n r l) =
       let w = those (is_wanted names) hs in

@@ -1,8 +1,5 @@
 -- The sheet of the package of one unit on a page of 80 bytes, and 35 on one of 79; and the sheet of a package of a type unit.
-use mathlib.Core.Path.{◌≡◌, refl}
-use mathlib.Core.Bool.{false}
-use mathlib.Core.List.{List, [], ◌∷◌, ◌++◌}
-use Prim.Native.Nat.{ℕ}
+use Rattle.std.proofs.Common.{◌≡◌, refl, false, List, [], ◌∷◌, ◌++◌, ℕ}
 use Rattle.octets.specs.Checked
 use Rattle.octets.specs.Lists
 use Rattle.octets.specs.Octets
@@ -37,5 +34,5 @@ abbrev pub third : List ℕ
 third = 84 ∷ 32 ∷ 48 ∷ 48 ∷ 48 ∷ 48 ∷ 48 ∷ 48 ∷ 54 ∷ 55 ∷ 56 ∷ 57 ∷ 97 ∷ 98 ∷ 99 ∷ 100 ∷ 101 ∷ 102 ∷ 32 ∷ 48 ∷ 49 ∷ 32 ∷ 48 ∷ 48 ∷ 48 ∷ 48 ∷ 48 ∷ 48 ∷ 48 ∷ 48 ∷ 32 ∷ 48 ∷ 48 ∷ 48 ∷ 48 ∷ 48 ∷ 48 ∷ 49 ∷ 56 ∷ 10 ∷ []
 
 pub examples : (sheet_of example 80 ≡ made (first ++ second)) × (sheet_of example 79 ≡ refused 35) × (sheet_of typed 40 ≡ made third)
-unfolding Checked.◌>>=◌ Checked.require Checked.renumbered Lists.all Lists.any Lists.those Lists.has Lists.distinct Lists.zero_together Octets.part Octets.little Octets.number Octets.number_at Octets.numbers_in Octets.little_of Octets.bytes_of Octets.numbers_of Bundle.filled_up Bundle.object_step Bundle.section_step Bundle.end_step Bundle.step_of Bundle.step_at Bundle.followed Bundle.items_from Bundle.items Bundle.leading Bundle.objects_of Bundle.object_first Bundle.bundle_of Bundle.length_good Bundle.parts_of Bundle.count Bundle.first_part Bundle.body Encoding.encoding_of Encoding.encoding_good Columns.columns_five Columns.columns_of Index.version_of Index.columns_most Index.code_good Index.power_from Index.least_power Index.slots_good Index.layout Index.index_of Lookup.codes Lookup.package_index Lookup.object_judged Lookup.objects_judged Lookup.package_of Sheet.digit Sheet.hex Sheet.decimal Sheet.line Sheet.section_in Sheet.cell_lines Sheet.row_lines Sheet.identities_in Sheet.only Sheet.rows_from Sheet.table_lines Sheet.sheet_lines Sheet.on_page Sheet.sheet_of
+unfolding Checked.◌>>=◌ Checked.require Checked.renumbered Lists.has Lists.distinct Lists.zero_together Octets.part Octets.little Octets.number Octets.number_at Octets.numbers_in Octets.little_of Octets.bytes_of Octets.numbers_of Bundle.filled_up Bundle.object_step Bundle.section_step Bundle.end_step Bundle.step_of Bundle.step_at Bundle.followed Bundle.items_from Bundle.items Bundle.leading Bundle.objects_of Bundle.object_first Bundle.bundle_of Bundle.length_good Bundle.parts_of Bundle.count Bundle.first_part Bundle.body Encoding.encoding_of Encoding.encoding_good Columns.columns_five Columns.columns_of Index.version_of Index.columns_most Index.code_good Index.power_from Index.least_power Index.slots_good Index.layout Index.index_of Lookup.codes Lookup.package_index Lookup.object_judged Lookup.objects_judged Lookup.package_of Sheet.digit Sheet.hex Sheet.decimal Sheet.line Sheet.section_in Sheet.cell_lines Sheet.row_lines Sheet.identities_in Sheet.only Sheet.rows_from Sheet.table_lines Sheet.sheet_lines Sheet.on_page Sheet.sheet_of
 examples = (refl, refl, refl)

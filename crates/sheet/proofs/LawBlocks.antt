@@ -1,13 +1,7 @@
 -- Laws of the lines of all rows: what a slot's row changes in them, and that they are the definition's once every row has its slot.
-use mathlib.Core.Path.{◌≡◌, refl, sym, ap, ap₂, ◌∙◌}
-use mathlib.Core.List.{List, [], ◌∷◌, ◌++◌, append_assoc}
-use Prim.Native.Nat.{ℕ, zero, suc, ◌+◌, ◌*◌, ◌-◌, ◌≤◌, ◌<◌}
-use native.Mathlib.Nat.{mul-suc, mul-zero}
-use native.Mathlib.Omega.{arith}
-use native.Mathlib.Numerals.{add-one}
+use Rattle.std.proofs.Common.{◌≡◌, refl, sym, ap, ap₂, ◌∙◌, List, [], ◌∷◌, ◌++◌, append_assoc, ℕ, zero, suc, ◌+◌, ◌*◌, ◌-◌, ◌≤◌, ◌<◌, mul-suc, mul-zero, arith, add-one, length, get_or, take, drop, length-append, drop_of_length-le, drop-cons}
 use native.Mathlib.Decide.{ℕ_discrete}
-use lib.ListN.{length, get_or, take, drop, length-append, drop_of_length-le}
-use lib.Seq.{drop-cons, take-append-add, drop-append-add, take-append-le, drop-append-le}
+use lib.Seq.{take-append-add, drop-append-add, take-append-le, drop-append-le}
 use Rattle.octets.specs.Octets.{placed, zeros}
 use Rattle.octets.proofs.Placed.{length_zeros, zeros_add, zeros_none, placed_all, placed_none}
 use Rattle.index.specs.Columns.{columns_of}

@@ -1,13 +1,7 @@
 -- The cell that a line names is the one that a lookup reads: by the place of its column, for codes that are good and distinct.
-use mathlib.Core.Path.{◌≡◌, refl, sym}
-use mathlib.Core.Bool.{Bool, true, false, ◌&&◌}
-use mathlib.Core.List.{List, [], ◌∷◌}
-use mathlib.Core.Option.{some}
-use Prim.Native.Nat.{ℕ, zero, suc, ◌+◌, ◌*◌, ◌-◌, ◌≤◌, ◌<◌}
-use native.Mathlib.Omega.{arith}
-use lib.Dec.{eqb, leb}
-use lib.ListN.{length, get_or}
-use borrow.Author.Tests.{leb-true, eqb-false}
+use Rattle.std.proofs.Common.{◌≡◌, refl, sym, Bool, true, false, ◌&&◌, List, [], ◌∷◌, ℕ, zero, suc, ◌+◌, ◌*◌, ◌-◌, ◌≤◌, ◌<◌, arith, eqb, leb, length, get_or, leb-true}
+use Rattle.std.specs.Prelude.{if◌then◌else◌, Some}
+use borrow.Author.Tests.{eqb-false}
 use Rattle.octets.specs.Lists.{all, distinct}
 use Rattle.octets.proofs.Checks.{true_false, and_left, and_right}
 use Rattle.octets.proofs.Elements.{all_at, distinct_head, distinct_tail, has_not_at}
@@ -15,16 +9,15 @@ use Rattle.index.specs.Columns.{Column, columns_of, column_in, columns_four, col
 use Rattle.index.specs.Index.{Index, code_good, place_of, cell_at, cell_of}
 use Rattle.index.proofs.LawPlaces.{place_of_here, place_of_on}
 use Rattle.sheet.specs.Sheet.{section_in}
-use Rattle.std.specs.Prelude.{if◌then◌else◌}
 
 -- ---- our code of a column, and back
 pub record Named (version code : ℕ) : Type 0 where
-  pub column : column_in (columns_of version) (section_in (columns_of version) code) ≡ some code
+  pub column : column_in (columns_of version) (section_in (columns_of version) code) ≡ Some code
   pub least : 1 ≤ section_in (columns_of version) code
   pub most : section_in (columns_of version) code ≤ 10
 
 record NamedIn (cs : List Column) (code : ℕ) : Type 0 where
-  column : column_in cs (section_in cs code) ≡ some code
+  column : column_in cs (section_in cs code) ≡ Some code
   least : 1 ≤ section_in cs code
   most : section_in cs code ≤ 10
 
@@ -74,7 +67,7 @@ named version code e = go (eqb version 5) refl
         record { column = rw (columns_of, f) n.column; least = rw (columns_of, f) n.least; most = rw (columns_of, f) n.most }
 
 -- ---- the place of a code among others
-place_at : (codes : List ℕ) (j : ℕ) → j < length codes → distinct codes ≡ true → place_of codes (get_or codes j 0) ≡ some j
+place_at : (codes : List ℕ) (j : ℕ) → j < length codes → distinct codes ≡ true → place_of codes (get_or codes j 0) ≡ Some j
 place_at [] j h e = absurd (omega arith)
 place_at (k ∷ ks) zero h e = place_of_here k ks k refl
 place_at (k ∷ ks) (suc j) h e =
@@ -86,6 +79,6 @@ module _ (i : Index) (good : all (code_good i.version) i.codes ≡ true) (apart 
   line_named = named i.version (get_or i.codes j 0) (all_at (code_good i.version) 0 i.codes j good h)
 
   pub line_cell : (row : ℕ) → cell_of i row (section_in (columns_of i.version) (get_or i.codes j 0))
-      ≡ some (record { offset = get_or i.offsets ((row - 1) * length i.codes + j) 0; size = get_or i.sizes ((row - 1) * length i.codes + j) 0 })
+      ≡ Some (record { offset = get_or i.offsets ((row - 1) * length i.codes + j) 0; size = get_or i.sizes ((row - 1) * length i.codes + j) 0 })
   unfolding cell_of cell_at
   line_cell row = rw (cell_of, line_named.column, place_at i.codes j h apart)

@@ -1,15 +1,7 @@
 -- What is known of an index that was read from a section of a package.
-use mathlib.Core.Path.{◌≡◌, sym, ◌∙◌}
-use mathlib.Core.Bool.{Bool, true, false}
-use mathlib.Core.List.{List}
-use mathlib.Core.Option.{some}
-use Prim.Native.Nat.{ℕ, ◌+◌, ◌*◌, ◌-◌, ◌^◌, ◌≤◌, ◌<◌}
-use native.Mathlib.Omega.{arith}
+use Rattle.std.proofs.Common.{◌≡◌, sym, ◌∙◌, Bool, true, false, List, ℕ, ◌+◌, ◌*◌, ◌-◌, ◌^◌, ◌≤◌, ◌<◌, arith, pow_mono, length, get_or}
+use Rattle.std.specs.Prelude.{Some, Ok}
 use native.Mathlib.Decide.{dec_le}
-use lib.Pow.{pow_mono}
-use lib.ListN.{length, get_or}
-use Rattle.std.specs.Prelude.{Some}
-use Rattle.octets.specs.Checked.{pass}
 use Rattle.index.specs.Columns.{columns_of}
 use Rattle.index.specs.Index.{Index, index_of, layout, cell_at}
 use Rattle.index.specs.Cells.{cell_found}
@@ -36,7 +28,7 @@ small_power n p h = elim (dec_le p.power 19) [
 ]
 
 -- 12 bytes for each slot, and fewer than 2 ^ 23 in all
-pub index_here : (big : Bool) (s : List ℕ) (i : Index) → index_of big s ≡ pass i → length s < 0x80_0000 → IndexHere i
+pub index_here : (big : Bool) (s : List ℕ) (i : Index) → index_of big s ≡ Ok i → length s < 0x80_0000 → IndexHere i
 unfolding index_in layout
 index_here big s i e short =
     let h = stated big s in
@@ -64,7 +56,7 @@ module _ (i : Index) (e : IndexHere i) where
 
 -- the line of a cell, by what is read of it
 pub line_is : (letter : ℕ) (i : Index) (row identity k section : ℕ) (c : Contribution) → section ≡ section_in (columns_of i.version) (get_or i.codes k 0)
-    → Some c ≡ cell_found (cell_at i row (some k))
+    → Some c ≡ cell_found (cell_at i row (Some k))
     → CellLine letter i identity k ((row - 1) * length i.codes + k) (record { letter = letter; identity = identity; section = section; offset = c.offset; size = c.size })
 unfolding cell_found cell_at
 line_is letter i row identity k section c e f =

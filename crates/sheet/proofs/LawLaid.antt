@@ -1,11 +1,5 @@
 -- A loop over the slots, from the last one to the first, that stores each row's lines over zeros.
-use mathlib.Core.Path.{◌≡◌, sym, ap, ap₂, ◌∙◌}
-use mathlib.Core.List.{List, ◌∷◌, ◌++◌}
-use Prim.Native.Nat.{ℕ, suc, ◌+◌, ◌*◌, ◌-◌, ◌≤◌, ◌<◌}
-use native.Mathlib.Nat.{mul-suc, mul-le-mul_left}
-use native.Mathlib.Omega.{arith}
-use lib.ListN.{length, get_or, drop, drop_of_length-le}
-use lib.Seq.{drop-cons}
+use Rattle.std.proofs.Common.{◌≡◌, sym, ap, ap₂, ◌∙◌, List, ◌∷◌, ◌++◌, ℕ, suc, ◌+◌, ◌*◌, ◌-◌, ◌≤◌, ◌<◌, mul-suc, mul-le-mul_left, arith, length, get_or, drop, drop_of_length-le, drop-cons}
 use Rattle.octets.specs.Octets.{placed, padded, zeros}
 use Rattle.octets.proofs.Placed.{zeros_add}
 use Rattle.index.specs.Index.{Index}

@@ -1,11 +1,6 @@
 -- Laws of a line: its digits as a loop stores them, its fields one behind the other, its length.
-use mathlib.Core.Path.{◌≡◌, refl, sym, ap, ◌∙◌}
-use mathlib.Core.List.{List, [], ◌∷◌, ◌++◌, append_assoc}
-use Prim.Native.Nat.{ℕ, zero, suc, ◌+◌, ◌*◌, ◌-◌, ◌/◌, ◌%◌, ◌≤◌, ◌<◌}
-use native.Mathlib.Omega.{arith}
+use Rattle.std.proofs.Common.{◌≡◌, refl, sym, ap, ◌∙◌, List, [], ◌∷◌, ◌++◌, append_assoc, ℕ, zero, suc, ◌+◌, ◌*◌, ◌-◌, ◌/◌, ◌%◌, ◌≤◌, ◌<◌, arith, length, set, length-append, lt-ltb, le-ltb}
 use native.Mathlib.Decide.{dec_le}
-use lib.ListN.{length, set, length-append}
-use borrow.Author.Tests.{lt-ltb, le-ltb}
 use Rattle.octets.specs.Octets.{placed}
 use Rattle.octets.proofs.Placed.{placed_back, placed_placed}
 use Rattle.sheet.specs.Sheet.{digit, hex, decimal, line, space, newline}

@@ -1,18 +1,10 @@
 -- Laws of marks: one that was set stands, the others are as they were.
-use mathlib.Core.Path.{◌≡◌, refl, sym, ap, ◌∙◌}
-use mathlib.Core.Bool.{Bool, true, false, ◌&&◌}
-use native.Mathlib.Numerals.{add-one}
+use Rattle.std.proofs.Common.{◌≡◌, refl, sym, ap, ◌∙◌, Bool, true, false, ◌&&◌, add-one, List, ℕ, zero, suc, ◌+◌, ◌*◌, ◌-◌, ◌/◌, ◌%◌, ◌^◌, ◌<◌, arith, one-mul, eq-eqb, pow-add, shl_exact, length, get_or, length-set, get_or-set_same, get_or-set_other}
 use Rattle.std.specs.List.{list_all, range_with_len}
-use mathlib.Core.List.{List}
-use Prim.Native.Nat.{ℕ, zero, suc, ◌+◌, ◌*◌, ◌-◌, ◌/◌, ◌%◌, ◌^◌, ◌<◌}
-use native.Mathlib.Omega.{arith}
-use native.Mathlib.Nat.{one-mul, zero-div, div-eq_of_lt}
+use native.Mathlib.Nat.{zero-div, div-eq_of_lt}
 use native.Mathlib.Decide.{ℕ_discrete, dec_le}
-use borrow.Author.Tests.{eq-eqb}
 use lib.Bits.{bit_or, or_shr, or_mod, or_zero_r, shifted_even}
-use lib.Pow.{pow-lt, pow-add, shl-shr, shl_exact}
-use lib.ListN.{length, get_or, length-set}
-use lib.Seq.{get_or-set_same, get_or-set_other}
+use lib.Pow.{pow-lt, shl-shr}
 use Rattle.octets.specs.Octets.{zeros}
 use Rattle.octets.proofs.Placed.{get_d_zeros}
 use Rattle.sheet.specs.Held.{marked, with_mark, all_marked}

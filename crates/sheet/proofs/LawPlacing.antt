@@ -1,13 +1,9 @@
 -- An index whose slots were filled by placing: each row has exactly one slot, that of its identity. And the lines of such an index, row by row.
-use mathlib.Core.Path.{◌≡◌, refl, sym, ap, ap₂, ◌∙◌, subst}
-use mathlib.Core.List.{List, [], ◌∷◌, ◌++◌, map}
-use Prim.Native.Nat.{ℕ, zero, suc, ◌+◌, ◌^◌, ◌≤◌, ◌<◌}
-use native.Mathlib.Omega.{arith}
+use Rattle.std.proofs.Common.{◌≡◌, refl, sym, ap, ap₂, ◌∙◌, subst, List, [], ◌∷◌, ◌++◌, map, ℕ, zero, suc, ◌+◌, ◌^◌, ◌≤◌, ◌<◌, arith, length, get_or, set, length-set}
 use native.Mathlib.Decide.{ℕ_discrete}
-use lib.ListN.{length, get_or, set, length-set}
 use Rattle.octets.specs.Octets.{zeros}
 use Rattle.octets.specs.Lists.{joined}
-use Rattle.octets.specs.Checked.{pass}
+use Rattle.std.specs.Prelude.{Ok}
 use Rattle.octets.proofs.Checks.{then_pass}
 use Rattle.octets.proofs.Placed.{length_zeros}
 use Rattle.index.specs.Columns.{columns_of}
@@ -117,18 +113,18 @@ module _ (letter : ℕ) (i : Index) where
   pub cells_told : (x : ℕ) (f : ℕ → List ℕ) (n : ℕ) (codes : List ℕ)
       → ((j : ℕ) → j < length codes → line letter x (section_in (columns_of i.version) (get_or codes j 0)) (get_or i.offsets (n + j) 0) (get_or i.sizes (n + j) 0) ≡ f (section_in (columns_of i.version) (get_or codes j 0)))
       → cell_lines letter i x n codes ≡ joined (map f (map (section_in (columns_of i.version)) codes))
-  unfolding cell_lines joined
+  unfolding cell_lines
   cells_told x f n [] h = refl
   cells_told x f n (c ∷ cs) h =
       let z : n + 0 ≡ n = omega arith in
       ap₂ (λ (a b : List ℕ). a ++ b) (rw z at (h 0 (omega arith))) (cells_told x f (suc n) cs (λ j g. let s : n + suc j ≡ suc n + j = omega arith in rw s at (h (suc j) (omega arith))))
 
   pub rows_told : (f : ℕ → List ℕ) (row : ℕ) (xs : List ℕ) → ((j : ℕ) → j < length xs → identities_in (row + j) i.rows i.identities ≡ get_or xs j 0 ∷ [])
-      → ((j : ℕ) → j < length xs → row_lines letter i (row + j) (get_or xs j 0) ≡ f (get_or xs j 0)) → rows_from letter i row (length xs) ≡ pass (joined (map f xs))
-  unfolding rows_from joined only
+      → ((j : ℕ) → j < length xs → row_lines letter i (row + j) (get_or xs j 0) ≡ f (get_or xs j 0)) → rows_from letter i row (length xs) ≡ Ok (joined (map f xs))
+  unfolding rows_from only
   rows_told f row [] h g = refl
   rows_told f row (x ∷ xs) h g =
       let z : row + 0 ≡ row = omega arith in
-      let first : only (identities_in row i.rows i.identities) ≡ pass x = ap only (rw z at (h 0 (omega arith))) in
+      let first : only (identities_in row i.rows i.identities) ≡ Ok x = ap only (rw z at (h 0 (omega arith))) in
       let rest = rows_told f (suc row) xs (λ j k. let s : row + suc j ≡ suc row + j = omega arith in rw s at (h (suc j) (omega arith))) (λ j k. let s : row + suc j ≡ suc row + j = omega arith in rw s at (g (suc j) (omega arith))) in
-      then_pass _ _ x first ∙ then_pass _ _ _ rest ∙ ap (λ (l : List ℕ). pass (l ++ joined (map f xs))) (rw z at (g 0 (omega arith)))
+      then_pass _ _ x first ∙ then_pass _ _ _ rest ∙ ap (λ (l : List ℕ). Ok (l ++ joined (map f xs))) (rw z at (g 0 (omega arith)))

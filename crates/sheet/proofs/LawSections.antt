@@ -1,12 +1,5 @@
 -- Laws of the section whose column has a code.
-use mathlib.Core.Path.{◌≡◌, refl}
-use mathlib.Core.Bool.{Bool, true, false}
-use mathlib.Core.List.{List, [], ◌∷◌, map}
-use mathlib.Core.Logic.{⊎_elim}
-use Prim.Native.Nat.{ℕ, ◌≤◌, ◌<◌}
-use native.Mathlib.Omega.{arith}
-use lib.Dec.{eqb, leb}
-use borrow.Author.Tests.{leb-true}
+use Rattle.std.proofs.Common.{◌≡◌, refl, Bool, true, false, List, [], ◌∷◌, map, ⊎_elim, ℕ, ◌≤◌, ◌<◌, arith, eqb, leb, leb-true}
 use Rattle.std.specs.Prelude.{find, if◌then◌else◌}
 use Rattle.std.specs.Option.{option_map_or}
 use Rattle.octets.specs.Lists.{all}
@@ -35,7 +28,7 @@ below (c ∷ cs) e code =
     go false h g = g
 
 pub section_small : (version code : ℕ) → section_in (columns_of version) code < 100
-unfolding columns_of columns_four columns_five all
+unfolding columns_of columns_four columns_five
 section_small version code = go (eqb version 5)
   where
     go : (t : Bool) → section_in (if t then columns_five else columns_four) code < 100

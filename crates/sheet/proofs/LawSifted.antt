@@ -1,12 +1,6 @@
 -- A loop over the slots, from the last one to the first, that marks their rows.
-use mathlib.Core.Path.{◌≡◌, sym, ap, ◌∙◌}
-use mathlib.Core.Bool.{true, false}
-use mathlib.Core.List.{List, [], ◌∷◌}
-use Prim.Native.Nat.{ℕ, suc, ◌/◌, ◌≤◌, ◌<◌}
-use native.Mathlib.Omega.{arith}
+use Rattle.std.proofs.Common.{◌≡◌, sym, ap, ◌∙◌, true, false, List, [], ◌∷◌, ℕ, suc, ◌/◌, ◌≤◌, ◌<◌, arith, length, get_or, drop, drop_of_length-le, drop-cons}
 use native.Mathlib.Decide.{ℕ_discrete}
-use lib.ListN.{length, get_or, drop, drop_of_length-le}
-use lib.Seq.{drop-cons}
 use Rattle.octets.specs.Octets.{zeros}
 use Rattle.octets.specs.Lists.{has, any}
 use Rattle.octets.proofs.Elements.{has_cons, has_skips}
@@ -20,7 +14,7 @@ pub record Sifted (words rows : List ℕ) (k : ℕ) : Type 0 where
   pub marks : Marked words (drop k rows)
 
 pub sifted_none : (m : ℕ) (words rows : List ℕ) (k : ℕ) → words ≡ zeros m → length rows ≤ k → Sifted words rows k
-unfolding none_twice has any
+unfolding none_twice has
 sifted_none m words rows k e h =
     let none : drop k rows ≡ [] = drop_of_length-le rows h in
     record {

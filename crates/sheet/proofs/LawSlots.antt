@@ -1,16 +1,9 @@
 -- Laws of the slots of a row: none, one or more, by marks and by the definition.
-use mathlib.Core.Path.{◌≡◌, refl, sym, ap, ◌∙◌}
-use mathlib.Core.Bool.{true, false}
-use mathlib.Core.List.{List, [], ◌∷◌}
-use mathlib.Core.Logic.{⊎_elim}
-use Prim.Native.Nat.{ℕ, zero, suc, ◌+◌, ◌≤◌, ◌<◌}
-use native.Mathlib.Omega.{arith}
+use Rattle.std.proofs.Common.{◌≡◌, refl, sym, ap, ◌∙◌, true, false, List, [], ◌∷◌, ⊎_elim, ℕ, zero, suc, ◌+◌, ◌≤◌, ◌<◌, arith, length, get_or, drop, eq-eqb, ne_eqb}
 use native.Mathlib.Decide.{ℕ_discrete}
-use lib.ListN.{length, get_or, drop}
-use borrow.Author.Tests.{eq-eqb, ne_eqb}
 use Rattle.numbers.specs.Refusals.{bad_package}
 use Rattle.octets.specs.Lists.{has, any}
-use Rattle.octets.specs.Checked.{Check, pass, refuse}
+use Rattle.std.specs.Prelude.{Result, Ok, Err}
 use Rattle.octets.proofs.Checks.{true_false, known, pass_refuse, pass_inj, then_pass, then_refuse}
 use Rattle.octets.proofs.Elements.{has_cons, has_skips, at_has}
 use Rattle.index.specs.Index.{Index}
@@ -37,7 +30,7 @@ in_none row (r ∷ rs) (x ∷ xs) e = elim (ℕ_discrete r row) [
 ]
 
 in_some : (row : ℕ) (rows ids : List ℕ) → length rows ≡ length ids → has rows row ≡ true → (x : ℕ) × (xs : List ℕ) × (identities_in row rows ids ≡ x ∷ xs)
-unfolding has any
+unfolding has
 in_some row [] ids l e = absurd (true_false e refl)
 in_some row (r ∷ rs) [] l e = absurd (omega arith)
 in_some row (r ∷ rs) (x ∷ xs) l e = elim (ℕ_discrete r row) [
@@ -76,7 +69,7 @@ twice_drop (r ∷ rs) (suc k) e = ⊎_elim (λ p. absurd (true_false (twice_tail
 
 in_one : (row : ℕ) (rows ids : List ℕ) → 0 < row → length rows ≡ length ids → none_twice rows ≡ true → has rows row ≡ true
     → (x : ℕ) × (identities_in row rows ids ≡ x ∷ [])
-unfolding has any
+unfolding has
 in_one row [] ids p l t e = absurd (true_false e refl)
 in_one row (r ∷ rs) [] p l t e = absurd (omega arith)
 in_one row (r ∷ rs) (x ∷ xs) p l t e = elim (ℕ_discrete r row) [
@@ -157,21 +150,21 @@ module _ (words rows ids : List ℕ) (m : Marked words rows) (l : length rows �
       missing : has rows row ≡ false → all_marked words row (suc n) ≡ single rows ids row (suc n)
       missing q = rw (all_marked, single, m.is row h, q, in_none row rows ids q)
 
-single_stops : (rows ids : List ℕ) (row n : ℕ) (m : ℕ) → only (identities_in row rows ids) ≡ refuse m → single rows ids row (suc n) ≡ false
+single_stops : (rows ids : List ℕ) (row n : ℕ) (m : ℕ) → only (identities_in row rows ids) ≡ Err m → single rows ids row (suc n) ≡ false
 unfolding single
 single_stops rows ids row n m e = rw (single, e)
 
-single_on : (rows ids : List ℕ) (row n x : ℕ) → only (identities_in row rows ids) ≡ pass x → single rows ids row (suc n) ≡ single rows ids (suc row) n
+single_on : (rows ids : List ℕ) (row n x : ℕ) → only (identities_in row rows ids) ≡ Ok x → single rows ids row (suc n) ≡ single rows ids (suc row) n
 unfolding single
 single_on rows ids row n x e = rw (single, e)
 
-single_not : (rows ids : List ℕ) (r row n m : ℕ) → only (identities_in r rows ids) ≡ refuse m → row ≤ r → r < row + n → single rows ids row n ≡ false
+single_not : (rows ids : List ℕ) (r row n m : ℕ) → only (identities_in r rows ids) ≡ Err m → row ≤ r → r < row + n → single rows ids row n ≡ false
 single_not rows ids r row zero m e h g = absurd (omega arith)
 single_not rows ids r row (suc n) m e h g = go (λ q. single_not rows ids r (suc row) n m e q (omega arith)) (only (identities_in row rows ids)) refl
   where
-    go : (suc row ≤ r → single rows ids (suc row) n ≡ false) → (o : Check ℕ) → only (identities_in row rows ids) ≡ o → single rows ids row (suc n) ≡ false
-    go on (refuse k) f = single_stops rows ids row n k f
-    go on (pass x) f = elim (ℕ_discrete row r) [
+    go : (suc row ≤ r → single rows ids (suc row) n ≡ false) → (o : Result ℕ ℕ) → only (identities_in row rows ids) ≡ o → single rows ids row (suc n) ≡ false
+    go on (Err k) f = single_stops rows ids row n k f
+    go on (Ok x) f = elim (ℕ_discrete row r) [
       | yes q ↦ single_stops rows ids row n m (ap (λ (z : ℕ). only (identities_in z rows ids)) q ∙ e)
       | no q ↦ single_on rows ids row n x f ∙ on (omega (arith, q))
     ]
@@ -185,37 +178,37 @@ twice_single rows ids n l b e =
     single_not rows ids t.row 1 n bad_package (ap only t.are) t.counted (omega (arith, b k h))
 
 -- ---- the definition
-only_refused : (xs : List ℕ) (m : ℕ) → only xs ≡ refuse m → only xs ≡ refuse bad_package
+only_refused : (xs : List ℕ) (m : ℕ) → only xs ≡ Err m → only xs ≡ Err bad_package
 unfolding only
 only_refused [] m e = refl
 only_refused (x ∷ []) m e = absurd (pass_refuse x m e)
 only_refused (x ∷ y ∷ ys) m e = refl
 
-only_passed : (xs : List ℕ) (x : ℕ) → only xs ≡ pass x → xs ≡ x ∷ []
+only_passed : (xs : List ℕ) (x : ℕ) → only xs ≡ Ok x → xs ≡ x ∷ []
 unfolding only
 only_passed [] x e = absurd (pass_refuse x bad_package (sym e))
 only_passed (y ∷ []) x e = ap (λ (z : ℕ). z ∷ []) (pass_inj e)
 only_passed (y ∷ z ∷ ys) x e = absurd (pass_refuse x bad_package (sym e))
 
 module _ (letter : ℕ) (i : Index) where
-  pub single_lines : (row n : ℕ) → single i.rows i.identities row n ≡ true → rows_from letter i row n ≡ pass (blocks letter i i.rows i.identities row n)
+  pub single_lines : (row n : ℕ) → single i.rows i.identities row n ≡ true → rows_from letter i row n ≡ Ok (blocks letter i i.rows i.identities row n)
   unfolding rows_from blocks block
   single_lines row zero e = refl
   single_lines row (suc n) e = go (single_lines (suc row) n) (only (identities_in row i.rows i.identities)) refl
     where
-      go : (single i.rows i.identities (suc row) n ≡ true → rows_from letter i (suc row) n ≡ pass (blocks letter i i.rows i.identities (suc row) n))
-          → (o : Check ℕ) → only (identities_in row i.rows i.identities) ≡ o → rows_from letter i row (suc n) ≡ pass (blocks letter i i.rows i.identities row (suc n))
-      go on (refuse m) f = absurd (true_false e (single_stops i.rows i.identities row n m f))
-      go on (pass x) f =
+      go : (single i.rows i.identities (suc row) n ≡ true → rows_from letter i (suc row) n ≡ Ok (blocks letter i i.rows i.identities (suc row) n))
+          → (o : Result ℕ ℕ) → only (identities_in row i.rows i.identities) ≡ o → rows_from letter i row (suc n) ≡ Ok (blocks letter i i.rows i.identities row (suc n))
+      go on (Err m) f = absurd (true_false e (single_stops i.rows i.identities row n m f))
+      go on (Ok x) f =
           let rest = on (sym (single_on i.rows i.identities row n x f) ∙ e) in
           then_pass _ _ x f ∙ then_pass _ _ _ rest ∙ rw (only_passed _ x f)
 
-  pub not_single_lines : (row n : ℕ) → single i.rows i.identities row n ≡ false → rows_from letter i row n ≡ refuse bad_package
+  pub not_single_lines : (row n : ℕ) → single i.rows i.identities row n ≡ false → rows_from letter i row n ≡ Err bad_package
   unfolding rows_from single
   not_single_lines row zero e = absurd (true_false refl e)
   not_single_lines row (suc n) e = go (not_single_lines (suc row) n) (only (identities_in row i.rows i.identities)) refl
     where
-      go : (single i.rows i.identities (suc row) n ≡ false → rows_from letter i (suc row) n ≡ refuse bad_package)
-          → (o : Check ℕ) → only (identities_in row i.rows i.identities) ≡ o → rows_from letter i row (suc n) ≡ refuse bad_package
-      go on (refuse m) f = then_refuse _ _ bad_package (only_refused _ m f)
-      go on (pass x) f = then_pass _ _ x f ∙ then_refuse _ _ bad_package (on (sym (single_on i.rows i.identities row n x f) ∙ e))
+      go : (single i.rows i.identities (suc row) n ≡ false → rows_from letter i (suc row) n ≡ Err bad_package)
+          → (o : Result ℕ ℕ) → only (identities_in row i.rows i.identities) ≡ o → rows_from letter i row (suc n) ≡ Err bad_package
+      go on (Err m) f = then_refuse _ _ bad_package (only_refused _ m f)
+      go on (Ok x) f = then_pass _ _ x f ∙ then_refuse _ _ bad_package (on (sym (single_on i.rows i.identities row n x f) ∙ e))

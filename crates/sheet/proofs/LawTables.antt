@@ -1,18 +1,11 @@
 -- Laws of a table of a package that was opened: what the code holds of its index, its measure and its lines.
-use mathlib.Core.Path.{◌≡◌, refl, sym, ap, ◌∙◌}
-use mathlib.Core.Bool.{Bool, true, false}
-use mathlib.Core.List.{List, [], ◌∷◌}
-use mathlib.Core.Option.{Option, some, none}
-use mathlib.Core.Logic.{⊎_elim}
-use Prim.Native.Nat.{ℕ, ◌+◌, ◌*◌, ◌≤◌, ◌<◌}
-use native.Mathlib.Omega.{arith}
+use Rattle.std.proofs.Common.{◌≡◌, refl, sym, ap, ◌∙◌, Bool, true, false, List, [], ◌∷◌, ⊎_elim, ℕ, ◌+◌, ◌*◌, ◌≤◌, ◌<◌, arith, length}
+use Rattle.std.specs.Prelude.{Option, Some, None, Result, Ok, Err}
 use native.Mathlib.Nat.{sub-zero}
 use native.Mathlib.Decide.{ℕ_discrete}
-use lib.ListN.{length}
-use Rattle.std.specs.Prelude.{Some}
 use Rattle.octets.specs.Octets.{zeros, padded, part}
 use Rattle.octets.specs.Options.{found}
-use Rattle.octets.specs.Checked.{Check, pass, refuse, mapped}
+use Rattle.octets.specs.Checked.{mapped}
 use Rattle.octets.proofs.Checks.{pass_inj, pass_refuse}
 use Rattle.octets.proofs.Parts.{length_part_le}
 use Rattle.octets.proofs.Placed.{padded_none}
@@ -34,14 +27,14 @@ use Rattle.sheet.proofs.LawSlots.{single_lines, not_single_lines}
 use Rattle.sheet.proofs.LawBlocks.{length_blocks}
 
 -- ---- a section of a package is shorter than 2 ^ 23 bytes, since its word has 23 bits for the length
-leading_short : (b : List ℕ) (at : ℕ) (is : List Item) → here b at ≡ pass is → (c : ℕ) (s : Part) → first_part (leading is) c ≡ some s → s.size < 0x80_0000
+leading_short : (b : List ℕ) (at : ℕ) (is : List Item) → here b at ≡ Ok is → (c : ℕ) (s : Part) → first_part (leading is) c ≡ Some s → s.size < 0x80_0000
 unfolding leading first_part
 leading_short b at [] e c s f = absurd (let z : ◌≡◌ {A = ℕ} 0 1 = cc in omega arith)
 leading_short b at (object w ∷ is) e c s f = absurd (let z : ◌≡◌ {A = ℕ} 0 1 = cc in omega arith)
 leading_short b at (section p ∷ is) e c s f = go (left_cons b at (section p) is e) (λ n h g. leading_short b (at + 4 + n) is h c s g)
   where
-    go : (n : ℕ) × (step_here b at ≡ more (section p) n) × (here b (at + 4 + n) ≡ pass is)
-        → ((n : ℕ) → here b (at + 4 + n) ≡ pass is → first_part (leading is) c ≡ some s → s.size < 0x80_0000) → s.size < 0x80_0000
+    go : (n : ℕ) × (step_here b at ≡ more (section p) n) × (here b (at + 4 + n) ≡ Ok is)
+        → ((n : ℕ) → here b (at + 4 + n) ≡ Ok is → first_part (leading is) c ≡ Some s → s.size < 0x80_0000) → s.size < 0x80_0000
     go (n, st, h) on = elim (ℕ_discrete p.code c) [
       | yes d ↦
           let same : p ≡ s = (let g = first_same c p (leading is) d in cc) in
@@ -49,16 +42,16 @@ leading_short b at (section p ∷ is) e c s f = go (left_cons b at (section p) i
       | no d ↦ on n h (sym (first_other c p (leading is) d) ∙ f)
     ]
 
-section_short : (p : List ℕ) (k : Package) → package_of p ≡ pass k → (c : ℕ) → length (body p k.parts c) < 0x80_0000
+section_short : (p : List ℕ) (k : Package) → package_of p ≡ Ok k → (c : ℕ) → length (body p k.parts c) < 0x80_0000
 unfolding body first_part
 section_short p k e c = ⊎_elim
     (λ h. rw h.parts (omega arith))
     (λ h. holding h.0 h.1.first (sym h.1.judged.parts))
     (package_objects p k e)
   where
-    at : (o : Object) → First p o → (m : Option Part) → first_part o.parts c ≡ m → length {A = ℕ} (elim m [ some s ↦ part p s.start s.size | none ↦ [] ]) < 0x80_0000
-    at o f none g = omega arith
-    at o f (some s) g =
+    at : (o : Object) → First p o → (m : Option Part) → first_part o.parts c ≡ m → length {A = ℕ} (elim m [ Some s ↦ part p s.start s.size | None ↦ [] ]) < 0x80_0000
+    at o f None g = omega arith
+    at o f (Some s) g =
         let n = leading_short p f.from f.items f.left c s (ap (λ (ps : List Part). first_part ps c) (sym f.parts) ∙ g) in
         omega (arith, length_part_le p s.start s.size)
 
@@ -66,22 +59,22 @@ section_short p k e c = ⊎_elim
     holding o f q = rw (sym q) (at o f (first_part o.parts c) refl)
 
 -- ---- the index of a table
-pub there : {A : Type 0} (o : Option A) (a : A) → Some a ≡ found o → o ≡ some a
-there (some b) a e = cc
-there none a e = absurd (let z : ◌≡◌ {A = ℕ} 0 1 = cc in omega arith)
+pub there : {A : Type 0} (o : Option A) (a : A) → Some a ≡ found o → o ≡ Some a
+there (Some b) a e = cc
+there None a e = absurd (let z : ◌≡◌ {A = ℕ} 0 1 = cc in omega arith)
 
-pub table_here : (p : List ℕ) (h : PackageHead) → Opened p h → (table : ℕ) (i : Index) → index_for (package_in p) table ≡ some i → IndexHere i
+pub table_here : (p : List ℕ) (h : PackageHead) → Opened p h → (table : ℕ) (i : Index) → index_for (package_in p) table ≡ Some i → IndexHere i
 table_here p h o table i e =
     index_here (package_in p).encoding.big (body p (package_in p).parts (index_code table)) i (index_known p (package_in p) o.is table i e)
     (section_short p (package_in p) o.is (index_code table))
 
 -- ---- a table with an index
-module _ (p : List ℕ) (table : ℕ) (i : Index) (e : index_for (package_in p) table ≡ some i) where
+module _ (p : List ℕ) (table : ℕ) (i : Index) (e : index_for (package_in p) table ≡ Some i) where
   is_rows : table_of p table ≡ rows_from (letter_of table) i 1 i.units
   unfolding table_of table_lines
   is_rows = ap (table_lines (letter_of table)) e
 
-  pub table_bad : single i.rows i.identities 1 i.units ≡ false → refuse 21 ≡ mapped length (table_of p table)
+  pub table_bad : single i.rows i.identities 1 i.units ≡ false → Err 21 ≡ mapped length (table_of p table)
   unfolding mapped
   table_bad f = sym (ap (mapped length) (is_rows ∙ not_single_lines (letter_of table) i 1 i.units f))
 
@@ -91,9 +84,9 @@ module _ (p : List ℕ) (table : ℕ) (i : Index) (e : index_for (package_in p) 
   length_is : length Blocks ≡ 40 * length i.codes * i.units
   length_is = length_blocks (letter_of table) i _ _ 1 i.units
 
-  pub table_measured : single i.rows i.identities 1 i.units ≡ true → pass (40 * length i.codes * i.units) ≡ mapped length (table_of p table)
+  pub table_measured : single i.rows i.identities 1 i.units ≡ true → Ok (40 * length i.codes * i.units) ≡ mapped length (table_of p table)
   unfolding mapped
-  table_measured f = sym (ap (mapped length) (is_rows ∙ single_lines (letter_of table) i 1 i.units f) ∙ ap pass length_is)
+  table_measured f = sym (ap (mapped length) (is_rows ∙ single_lines (letter_of table) i 1 i.units f) ∙ ap Ok length_is)
 
   -- ---- its lines
   module _ (page : List ℕ) (f : TableFits p table page) where
@@ -104,7 +97,7 @@ module _ (p : List ℕ) (table : ℕ) (i : Index) (e : index_for (package_in p) 
         go true g = g
         go false g = absurd (pass_refuse _ _ (sym f.are ∙ is_rows ∙ not_single_lines (letter_of table) i 1 i.units g))
 
-    lines_are : table_of p table ≡ pass Blocks
+    lines_are : table_of p table ≡ Ok Blocks
     lines_are = is_rows ∙ single_lines (letter_of table) i 1 i.units all_single
 
     pub table_room : 40 * length i.codes * i.units ≤ length page
@@ -112,18 +105,18 @@ module _ (p : List ℕ) (table : ℕ) (i : Index) (e : index_for (package_in p) 
 
     pub table_laid : (letter o : ℕ) → letter ≡ letter_of table → laid_out letter i o ≡ lines_of (table_of p table) o
     unfolding laid_out lines_of
-    table_laid letter o l = ap (λ (z : ℕ). laid_out z i o) l ∙ sym (ap (λ (m : Check (List ℕ)). lines_of m o) lines_are)
+    table_laid letter o l = ap (λ (z : ℕ). laid_out z i o) l ∙ sym (ap (λ (m : Result (List ℕ) ℕ). lines_of m o) lines_are)
 
 -- ---- a table without an index
-module _ (p : List ℕ) (table : ℕ) (e : index_for (package_in p) table ≡ none) where
-  none_are : table_of p table ≡ pass []
+module _ (p : List ℕ) (table : ℕ) (e : index_for (package_in p) table ≡ None) where
+  none_are : table_of p table ≡ Ok []
   unfolding table_of table_lines
   none_are = ap (table_lines (letter_of table)) e
 
-  pub missing_measured : pass 0 ≡ mapped length (table_of p table)
+  pub missing_measured : Ok 0 ≡ mapped length (table_of p table)
   unfolding mapped
   missing_measured = sym (ap (mapped length) none_are)
 
   pub missing_lines : (page : List ℕ) → page ≡ zeros (length page) → page ≡ lines_of (table_of p table) (length page)
   unfolding lines_of
-  missing_lines page b = b ∙ sym (ap (λ (z : Check (List ℕ)). lines_of z (length page)) none_are ∙ ap (padded []) (sub-zero (length page)) ∙ padded_none (length page))
+  missing_lines page b = b ∙ sym (ap (λ (z : Result (List ℕ) ℕ). lines_of z (length page)) none_are ∙ ap (padded []) (sub-zero (length page)) ∙ padded_none (length page))

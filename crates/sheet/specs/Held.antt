@@ -1,10 +1,9 @@
 -- What the code holds while it lays out a sheet. Nothing here need be believed.
-use Rattle.std.specs.Prelude.{◌≡◌, Bool, true, false, List, [], ◌∷◌, ◌++◌, ℕ, zero, suc, ◌*◌, ◌-◌, ◌/◌, ◌%◌, ◌^◌, ◌≤◌, ◌<◌, length, set, ◌==◌, slice_index, if◌then◌else◌}
+use Rattle.std.specs.Prelude.{◌≡◌, Bool, true, false, List, [], ◌∷◌, ◌++◌, ℕ, zero, suc, ◌*◌, ◌-◌, ◌/◌, ◌%◌, ◌^◌, ◌≤◌, ◌<◌, length, set, ◌==◌, slice_index, if◌then◌else◌, Ok, Err}
 use Rattle.std.specs.Int.Bits.{bit_or}
 use Rattle.numbers.specs.Tables.{columns2}
 use Rattle.octets.specs.Octets.{zeros, padded}
 use Rattle.octets.specs.Lists.{has}
-use Rattle.octets.specs.Checked.{pass, refuse}
 use Rattle.index.specs.Columns.{columns_of}
 use Rattle.index.specs.Index.{Index}
 use Rattle.sheet.specs.Sheet.{section_in, row_lines, identities_in, only, line_bytes}
@@ -35,7 +34,7 @@ all_marked words row (suc n) = if marked words row then all_marked words (suc ro
 unfoldable pub single : List ℕ → List ℕ → ℕ → ℕ → Bool
 single rows identities row zero = true
 single rows identities row (suc n) =
-    elim (only (identities_in row rows identities)) [ pass x ↦ single rows identities (suc row) n | refuse m ↦ false ]
+    elim (only (identities_in row rows identities)) [ Ok x ↦ single rows identities (suc row) n | Err m ↦ false ]
 
 -- the rows that stand in a slot are those marked
 pub record Marked (words rows : List ℕ) : Type 0 where

@@ -1,8 +1,7 @@
 -- The sheet of a package (FORMAT 9): both tables with a line for each row and column, on a page that is lent.
-use Rattle.std.specs.Prelude.{true, false, List, [], ◌∷◌, ◌++◌, ℕ, zero, suc, ◌+◌, ◌*◌, ◌-◌, ◌/◌, ◌%◌, length, ◌==◌, nat_le, nat_lt, slice_index, if◌then◌else◌}
-use Rattle.std.proofs.Math.Option.{Option, some, none}
+use Rattle.std.specs.Prelude.{true, false, List, [], ◌∷◌, ◌++◌, ℕ, zero, suc, ◌+◌, ◌*◌, ◌-◌, ◌/◌, ◌%◌, length, ◌==◌, nat_le, nat_lt, slice_index, if◌then◌else◌, Option, Some, None, Result, Ok, Err}
 use Rattle.numbers.specs.Refusals.{bad_package, page_short}
-use Rattle.octets.specs.Checked.{Check, pass, refuse, ◌>>=◌}
+use Rattle.octets.specs.Checked.{◌>>=◌}
 use Rattle.index.specs.Columns.{Column, columns_of}
 use Rattle.index.specs.Index.{Index}
 use Rattle.lookup.specs.Lookup.{package_of}
@@ -67,35 +66,35 @@ identities_in row (r ∷ rs) [] = []
 identities_in row (r ∷ rs) (x ∷ xs) = if r == row then x ∷ identities_in row rs xs else identities_in row rs xs
 
 -- 21 also where a row has no slot or more than one
-unfoldable pub only : List ℕ → Check ℕ
-only [] = refuse bad_package
-only (x ∷ []) = pass x
-only (x ∷ y ∷ ys) = refuse bad_package
+unfoldable pub only : List ℕ → Result ℕ ℕ
+only [] = Err bad_package
+only (x ∷ []) = Ok x
+only (x ∷ y ∷ ys) = Err bad_package
 
 -- ---- a table: n of its rows from one on
-unfoldable pub rows_from : ℕ → Index → ℕ → ℕ → Check (List ℕ)
-rows_from letter i row zero = pass []
+unfoldable pub rows_from : ℕ → Index → ℕ → ℕ → Result (List ℕ) ℕ
+rows_from letter i row zero = Ok []
 rows_from letter i row (suc n) = do
   identity ← only (identities_in row i.rows i.identities)
   rest ← rows_from letter i (suc row) n
-  pass (row_lines letter i row identity ++ rest)
+  Ok (row_lines letter i row identity ++ rest)
 
-unfoldable pub table_lines : ℕ → Option Index → Check (List ℕ)
-table_lines letter (some i) = rows_from letter i 1 i.units
-table_lines letter none = pass []
+unfoldable pub table_lines : ℕ → Option Index → Result (List ℕ) ℕ
+table_lines letter (Some i) = rows_from letter i 1 i.units
+table_lines letter None = Ok []
 
 -- ---- both tables, that of compilation units first; 21 for a bad package
-unfoldable pub sheet_lines : List ℕ → Check (List ℕ)
+unfoldable pub sheet_lines : List ℕ → Result (List ℕ) ℕ
 sheet_lines p = do
   k ← package_of p
   compilations ← table_lines letter_c k.cu_index
   types ← table_lines letter_t k.tu_index
-  pass (compilations ++ types)
+  Ok (compilations ++ types)
 
 -- 35, which comes behind 21: for a page of o bytes
-unfoldable pub on_page : Check (List ℕ) → ℕ → Answer
-on_page (refuse n) o = refused n
-on_page (pass lines) o = if nat_le (length lines) o then made lines else refused page_short
+unfoldable pub on_page : Result (List ℕ) ℕ → ℕ → Answer
+on_page (Err n) o = refused n
+on_page (Ok lines) o = if nat_le (length lines) o then made lines else refused page_short
 
 unfoldable pub sheet_of : List ℕ → ℕ → Answer
 sheet_of p o = on_page (sheet_lines p) o

@@ -1,6 +1,5 @@
 // A table of a package that was opened: the bytes that its lines take, and the lines.
-ghost use Rattle.std.specs.Prelude.{◌≡◌, MatchOption, length};
-ghost use Rattle.std.proofs.Math.Option.{some, none};
+ghost use Rattle.std.specs.Prelude.{◌≡◌, MatchOption, length, Option, Some, None, Result, Ok, Err};
 ghost use Rattle.numbers.specs.Refused.{told};
 ghost use Rattle.octets.specs.Checked.{mapped};
 ghost use Rattle.lookup.specs.Lookup.{index_for};
@@ -23,8 +22,8 @@ fn letter_of(table: u32) -> u8
 // The index of a table, if it is there.
 fn index_of<'a>(package: &Package<'a>, table: u32) -> Option<IndexTable<'a>>
     ensures { MatchOption result
-        (index_for (package_in «package».now.bytes.now) table ≡ none)
-        (λ t. (index_for (package_in «package».now.bytes.now) table ≡ some t.index) × (t.letter ≡ letter_of table)) }
+        (index_for (package_in «package».now.bytes.now) table ≡ None)
+        (λ t. (index_for (package_in «package».now.bytes.now) table ≡ Some t.index) × (t.letter ≡ letter_of table)) }
 {
     let index = package.index(table)?;
     Some(IndexTable::of(letter_of(table), index))

@@ -1,12 +1,6 @@
 -- Units that are written alike, home by home, give the same info, types and indexes.
-use mathlib.Core.Path.{◌≡◌, refl, sym, ap, ap₂, ◌∙◌, subst}
-use mathlib.Core.Logic.{⊎_elim}
-use mathlib.Core.Bool.{Bool, true, false}
-use mathlib.Core.List.{List, [], ◌∷◌, map}
-use Prim.Native.Nat.{ℕ, ◌+◌}
-use lib.Dec.{eqb}
-use lib.ListN.{length}
-use borrow.Author.Tests.{eqb-true, eqb-false}
+use Rattle.std.proofs.Common.{◌≡◌, refl, sym, ap, ap₂, ◌∙◌, subst, ⊎_elim, Bool, true, false, List, [], ◌∷◌, map, ℕ, ◌+◌, eqb, length, eqb-true}
+use borrow.Author.Tests.{eqb-false}
 use Rattle.octets.specs.Lists.{joined, those, any}
 use Rattle.octets.proofs.Checks.{known}
 use Rattle.octets.proofs.Lists.{those_keeps, those_skips}
@@ -57,7 +51,7 @@ row_at_law before before' u h e a =
     ap (λ (n : ℕ). record { identity = u.identity; cells = cells u n }) z
 
 pub rows_home : (t h : ℕ) (us : List Filed) (before before' : BySection ℕ) → before h ≡ before' h → Every (Tabled t h) us → rows_from before us t ≡ rows_from before' (of_home h us) t
-unfolding those rows_from entries_from
+unfolding rows_from entries_from
 rows_home t h [] before before' a e = refl
 rows_home t h (u ∷ us) before before' a e =
     let n = length u.bytes in
@@ -83,7 +77,7 @@ same_longer : (before : BySection ℕ) (u v : Filed) → u.home ≡ v.home → u
 same_longer before u v p q = ap₂ (λ (h : ℕ) (s : List ℕ). longer before h (length s)) p q
 
 rows_alike : (t : ℕ) (us vs : List Filed) → Both Alike us vs → (before : BySection ℕ) → Both SameRow (rows_from before us t) (rows_from before vs t)
-unfolding rows_from those row_at entries_from
+unfolding rows_from row_at entries_from
 rows_alike t [] (v ∷ vs) x'' before = elim x'' [ ]
 rows_alike t (u ∷ us) [] x3 before = elim x3 [ ]
 rows_alike t [] [] done before = done

@@ -1,14 +1,8 @@
 -- What is judged of an object is its word and its sections' bytes, wherever they lie in a bundle.
-use mathlib.Core.Path.{◌≡◌, refl, sym, ap, ◌∙◌}
-use mathlib.Core.Bool.{Bool, true, false, not, ◌&&◌, ◌||◌}
-use mathlib.Core.List.{List, [], ◌∷◌, ◌++◌, map, append-nil, append_assoc}
-use mathlib.Core.Option.{Option, some, none}
-use Prim.Native.Nat.{ℕ}
-use native.Mathlib.Omega.{arith}
-use lib.Dec.{eqb, leb}
-use lib.ListN.{length}
+use Rattle.std.proofs.Common.{◌≡◌, refl, sym, ap, ◌∙◌, Bool, true, false, not, ◌&&◌, ◌||◌, List, [], ◌∷◌, ◌++◌, map, append-nil, append_assoc, ℕ, arith, eqb, leb, length}
+use Rattle.std.specs.Prelude.{Option, if◌then◌else◌, Some, None, Result, Ok}
 use Rattle.octets.specs.Lists.{all, those}
-use Rattle.octets.specs.Checked.{Check, pass, ◌>>=◌, require}
+use Rattle.octets.specs.Checked.{◌>>=◌, require}
 use Rattle.octets.proofs.Checks.{bind_pass, then_pass, pass_inj}
 use Rattle.bundle.specs.Bundle.{Part, Object, count, body}
 use Rattle.bundle.specs.Encoding.{Encoding, encoding_of, encoding_good}
@@ -22,7 +16,6 @@ use Rattle.sittings.specs.Sittings.{section_in, object_in}
 use Rattle.package.specs.Pieces.{Piece, piece_of}
 use Rattle.package.specs.Input.{Input, wrong_codes, beside_info, edition_good, form_of, input_index, is_packed, whole_pieces, tiled_pieces, Opened, opened_whole, opened_tiled, opened, input_of}
 use Rattle.package.specs.Filing.{Filed, Filing, units_in, grown, filing_from}
-use Rattle.std.specs.Prelude.{if◌then◌else◌}
 
 -- `input_of` by the object's word, how many sections of each code it has, their bytes, and its sections of units
 module _ (big : Bool) (first word : ℕ) (κ : ℕ → ℕ) (bytes : BySection (List ℕ)) (units : List Section) where
@@ -40,26 +33,26 @@ module _ (big : Bool) (first word : ℕ) (κ : ℕ → ℕ) (bytes : BySection (
       all (λ c. not (has c)) (wrong_codes e) && all (λ c. not (twice c)) only_once
       && not ((has 12 || (eqb e.version 5 && has 13)) && twice 1) && not (has 13 && twice 2)
 
-  index : ℕ → Check (Option Index)
-  index c = (if has c then (index_of e.big (bytes c) >>= λ i. (require (eqb i.version (form_of e)) 10 >>= λ _. pass (some i))) else pass none)
+  index : ℕ → Result (Option Index) ℕ
+  index c = (if has c then (index_of e.big (bytes c) >>= λ i. (require (eqb i.version (form_of e)) 10 >>= λ _. Ok (Some i))) else Ok None)
 
-  whole : Check (List Piece)
-  whole = (if has 6 then (piece_of e (bytes 11) (bytes 6) >>= λ p. pass (p ∷ [])) else pass [])
+  whole : Result (List Piece) ℕ
+  whole = (if has 6 then (piece_of e (bytes 11) (bytes 6) >>= λ p. Ok (p ∷ [])) else Ok [])
 
   made : List Piece → Option Index → Option Index → Opened
   made ps cu tu = record { pieces = ps; cu_index = cu; tu_index = tu }
 
-  opens : Check Opened
-  opens = (if eqb e.version 5 && (has 12 || has 13) then (index 12 >>= λ cu. (index 13 >>= λ tu. (tiled_pieces e bytes cu tu >>= λ ps. pass (made ps cu tu)))) else whole >>= λ ps. (index 12 >>= λ cu. (index 13 >>= λ tu. pass (made ps cu tu))))
+  opens : Result Opened ℕ
+  opens = (if eqb e.version 5 && (has 12 || has 13) then (index 12 >>= λ cu. (index 13 >>= λ tu. (tiled_pieces e bytes cu tu >>= λ ps. Ok (made ps cu tu)))) else whole >>= λ ps. (index 12 >>= λ cu. (index 13 >>= λ tu. Ok (made ps cu tu))))
 
-  input_by : Check Input
+  input_by : Result Input ℕ
   input_by = do
     _ ← require (encoding_good e) 4
     _ ← require (eqb word first) 5
     _ ← require edition 6
     _ ← require (has 3 && has 1 && (not (has 6) || has 11)) 7
     t ← opens
-    pass (record { encoding = e; bytes = bytes; units = units; pieces = t.pieces; cu_index = t.cu_index; tu_index = t.tu_index })
+    Ok (record { encoding = e; bytes = bytes; units = units; pieces = t.pieces; cu_index = t.cu_index; tu_index = t.tu_index })
 
 by_content : (b : List ℕ) (big : Bool) (first : ℕ) (o : Object) → input_of b big first o ≡ input_by big first o.word (count o.parts) (body b o.parts) (unit_sections b o.parts)
 unfolding input_of input_by e has twice edition index whole made opens opened opened_whole opened_tiled edition_good beside_info complete present repeated input_index whole_pieces is_packed
@@ -70,7 +63,7 @@ unfoldable pub holds_units : Section → Bool
 holds_units s = eqb s.code 1 || eqb s.code 2
 
 pub units_in_law : (b : List ℕ) (ps : List Part) → unit_sections b ps ≡ those holds_units (map (section_in b) ps)
-unfolding unit_sections holds_units section_in those
+unfolding unit_sections holds_units section_in
 units_in_law b [] = refl
 units_in_law b (p ∷ ps) = go (eqb p.code 1 || eqb p.code 2) refl (units_in_law b ps)
   where
@@ -112,20 +105,20 @@ filing_same b b' big first (o ∷ os) (o' ∷ os') h bases earlier =
     let head : object_in b o ≡ object_in b' o' = cc in
     let tail : map (object_in b) os ≡ map (object_in b') os' = cc in
     λ k. input_same b b' big first o o' head k >>= λ i. (units_in i bases earlier [] i.units
-    >>= λ here. (filing_same b b' big first os os' tail (grown bases i) (earlier ++ here) k >>= λ rest. pass (record { inputs = i ∷ rest.inputs; units = here ++ rest.units })))
+    >>= λ here. (filing_same b b' big first os os' tail (grown bases i) (earlier ++ here) k >>= λ rest. Ok (record { inputs = i ∷ rest.inputs; units = here ++ rest.units })))
 
 unfoldable pub grown_all : BySection ℕ → List Input → BySection ℕ
 grown_all bases [] = bases
 grown_all bases (i ∷ is) = grown_all (grown bases i) is
 
 pub filing_append : (b : List ℕ) (big : Bool) (first : ℕ) (os ps : List Object) (bases : BySection ℕ) (earlier : List Filed) (f g : Filing)
-    → filing_from b big first bases earlier os ≡ pass f → filing_from b big first (grown_all bases f.inputs) (earlier ++ f.units) ps ≡ pass g
-    → filing_from b big first bases earlier (os ++ ps) ≡ pass (record { inputs = f.inputs ++ g.inputs; units = f.units ++ g.units })
+    → filing_from b big first bases earlier os ≡ Ok f → filing_from b big first (grown_all bases f.inputs) (earlier ++ f.units) ps ≡ Ok g
+    → filing_from b big first bases earlier (os ++ ps) ≡ Ok (record { inputs = f.inputs ++ g.inputs; units = f.units ++ g.units })
 unfolding filing_from grown_all
 filing_append b big first [] ps bases earlier f g p q =
     let z : record { inputs = []; units = [] } ≡ f = pass_inj p in
     ap (λ (e : List Filed). filing_from b big first bases e ps) (sym (append-nil earlier))
-    ∙ (λ k. filing_from b big first (grown_all bases (z k).inputs) (earlier ++ (z k).units) ps) ∙ q ∙ (λ k. pass (record { inputs = (z k).inputs ++ g.inputs; units = (z k).units ++ g.units }))
+    ∙ (λ k. filing_from b big first (grown_all bases (z k).inputs) (earlier ++ (z k).units) ps) ∙ q ∙ (λ k. Ok (record { inputs = (z k).inputs ++ g.inputs; units = (z k).units ++ g.units }))
 filing_append b big first (o ∷ os) ps bases earlier f g p q =
     let i = bind_pass (input_of b big first o) _ f p in
     let here = bind_pass (units_in i.0 bases earlier [] i.0.units) _ f i.2 in
@@ -135,5 +128,5 @@ filing_append b big first (o ∷ os) ps bases earlier f g p q =
     (ap (λ (e : List Filed). filing_from b big first (grown_all (grown bases i.0) rest.0.inputs) e ps) (append_assoc earlier here.0 rest.0.units)
     ∙ ap (λ (h : Filing). filing_from b big first (grown_all bases h.inputs) (earlier ++ h.units) ps) z ∙ q) in
     then_pass _ _ i.0 i.1 ∙ then_pass _ _ here.0 here.1 ∙ then_pass _ _ _ on
-    ∙ ap (λ (us : List Filed). pass (record { inputs = i.0 ∷ (rest.0.inputs ++ g.inputs); units = us })) (sym (append_assoc here.0 rest.0.units g.units))
-    ∙ ap (λ (h : Filing). pass (record { inputs = h.inputs ++ g.inputs; units = h.units ++ g.units })) z
+    ∙ ap (λ (us : List Filed). Ok (record { inputs = i.0 ∷ (rest.0.inputs ++ g.inputs); units = us })) (sym (append_assoc here.0 rest.0.units g.units))
+    ∙ ap (λ (h : Filing). Ok (record { inputs = h.inputs ++ g.inputs; units = h.units ++ g.units })) z

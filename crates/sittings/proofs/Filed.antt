@@ -1,10 +1,6 @@
 -- What holds of each unit that is filed, whatever was filed before it.
-use mathlib.Core.Path.{◌≡◌, sym, subst}
-use mathlib.Core.Bool.{Bool}
-use mathlib.Core.List.{List, [], ◌∷◌, ◌++◌}
-use Prim.Native.Nat.{ℕ, zero, suc, ◌+◌}
-use lib.ListN.{length, drop}
-use Rattle.octets.specs.Checked.{pass}
+use Rattle.std.proofs.Common.{◌≡◌, sym, subst, Bool, List, [], ◌∷◌, ◌++◌, ℕ, zero, suc, ◌+◌, length, drop}
+use Rattle.std.specs.Prelude.{Ok}
 use Rattle.octets.proofs.Checks.{bind_pass, pass_inj, pass_refuse}
 use Rattle.bundle.specs.Bundle.{Object}
 use Rattle.bundle.specs.Written.{Section}
@@ -16,10 +12,10 @@ use Rattle.package.proofs.Each.{each_append, each_snoc}
 
 -- a unit as it is filed somewhere in an object
 abbrev pub FiledIn : Input → BySection ℕ → List Filed → Filed → Type 0
-FiledIn i bases earlier u = (here : List Filed) × (home : ℕ) × (at : ℕ) × (s : List ℕ) × (unit_at i bases earlier here home at s ≡ pass u)
+FiledIn i bases earlier u = (here : List Filed) × (home : ℕ) × (at : ℕ) × (s : List ℕ) × (unit_at i bases earlier here home at s ≡ Ok u)
 
 module _ {P : Filed → Type 0} (i : Input) (bases : BySection ℕ) (earlier : List Filed) (so : (u : Filed) → FiledIn i bases earlier u → P u) where
-  units_each : (home k : ℕ) (here : List Filed) (at : ℕ) (s : List ℕ) (us : List Filed) → Every P here → units_from k i bases earlier here home at s ≡ pass us → Every P us
+  units_each : (home k : ℕ) (here : List Filed) (at : ℕ) (s : List ℕ) (us : List Filed) → Every P here → units_from k i bases earlier here home at s ≡ Ok us → Every P us
   unfolding units_from
   units_each home zero here at s us e q = absurd (pass_refuse us 11 (sym q))
   units_each home (suc k) here at [] us e q = subst (Every P) (pass_inj q) e
@@ -28,7 +24,7 @@ module _ {P : Filed → Type 0} (i : Input) (bases : BySection ℕ) (earlier : L
       units_each home k (here ++ (r.0 ∷ [])) (at + length r.0.bytes) (drop (length r.0.bytes) (b ∷ s)) us
       (each_snoc here r.0 e (so r.0 (here, home, at, b ∷ s, r.1))) r.2
 
-  pub sections_each : (ss : List Section) (here us : List Filed) → Every P here → units_in i bases earlier here ss ≡ pass us → Every P us
+  pub sections_each : (ss : List Section) (here us : List Filed) → Every P here → units_in i bases earlier here ss ≡ Ok us → Every P us
   unfolding units_in
   sections_each [] here us e q = subst (Every P) (pass_inj q) e
   sections_each (s ∷ ss) here us e q =
@@ -37,8 +33,8 @@ module _ {P : Filed → Type 0} (i : Input) (bases : BySection ℕ) (earlier : L
 
 -- of all objects
 pub filed_each : {P : Filed → Type 0} (b : List ℕ) (big : Bool) (first : ℕ)
-    → ((o : Object) (i : Input) (bases : BySection ℕ) (earlier : List Filed) (u : Filed) → input_of b big first o ≡ pass i → FiledIn i bases earlier u → P u)
-    → (bases : BySection ℕ) (earlier : List Filed) (os : List Object) (f : Filing) → filing_from b big first bases earlier os ≡ pass f → Every P f.units
+    → ((o : Object) (i : Input) (bases : BySection ℕ) (earlier : List Filed) (u : Filed) → input_of b big first o ≡ Ok i → FiledIn i bases earlier u → P u)
+    → (bases : BySection ℕ) (earlier : List Filed) (os : List Object) (f : Filing) → filing_from b big first bases earlier os ≡ Ok f → Every P f.units
 unfolding filing_from
 filed_each {P} b big first so bases earlier [] f q = subst (λ (g : Filing). Every P g.units) (pass_inj q) nothing
 filed_each {P} b big first so bases earlier (o ∷ os) f q =

@@ -1,15 +1,8 @@
 -- What a row gives to a unit, cell by cell.
-use mathlib.Core.Path.{◌≡◌, refl, sym, ap, ◌∙◌}
-use mathlib.Core.Logic.{⊎_elim}
-use mathlib.Core.Bool.{true, false, not}
-use mathlib.Core.List.{List, ◌∷◌}
-use mathlib.Core.Option.{Option, some, none}
-use Prim.Native.Nat.{ℕ, ◌+◌, ◌<◌}
-use lib.Dec.{eqb}
-use lib.ListN.{length, get_or}
-use borrow.Author.Tests.{ne_eqb}
+use Rattle.std.proofs.Common.{◌≡◌, refl, sym, ap, ◌∙◌, ⊎_elim, true, false, not, List, ◌∷◌, ℕ, ◌+◌, ◌<◌, eqb, length, get_or, ne_eqb}
+use Rattle.std.specs.Prelude.{Option, if◌then◌else◌, Some, None, Result, Ok}
 use Rattle.octets.specs.Lists.{all, has}
-use Rattle.octets.specs.Checked.{Check, pass, ◌>>=◌}
+use Rattle.octets.specs.Checked.{◌>>=◌}
 use Rattle.octets.proofs.Checks.{require_pass, then_pass, pass_inj, known}
 use Rattle.index.specs.Columns.{columns_of, column_in}
 use Rattle.index.specs.Index.{Index, Contribution, cell_of}
@@ -22,10 +15,9 @@ use Rattle.index.proofs.LawGrid.{no_row}
 use Rattle.index.proofs.OneRow.{those_has}
 use Rattle.index.proofs.RoundTrip.{written}
 use Rattle.octets.proofs.Options.{some_inj, some_none}
-use Rattle.std.specs.Prelude.{if◌then◌else◌}
 
 -- the rest of a chain, once its first check passes
-pub goes_on : {A B : Type 0} (m : Check A) (f : A → Check B) (a : A) (b : B) → m ≡ pass a → (m >>= f) ≡ pass b → f a ≡ pass b
+pub goes_on : {A B : Type 0} (m : Result A ℕ) (f : A → Result B ℕ) (a : A) (b : B) → m ≡ Ok a → (m >>= f) ≡ Ok b → f a ≡ Ok b
 goes_on m f a b e q = sym (then_pass m f a e) ∙ q
 
 -- ---- needed codes
@@ -38,9 +30,9 @@ needed_not lengths c z = ⊎_elim (λ t. absurd ((needed_shared lengths c t).1 z
 
 -- ---- the contributions of a row, by its number
 pub row_given : (x : Index) (width : ℕ) (lengths : BySection ℕ) (identity home at size row : ℕ) (g : BySection (Option Contribution))
-    → row_contributions x width lengths identity home at size ≡ pass g → row_of x (probe x identity) ≡ pass row
+    → row_contributions x width lengths identity home at size ≡ Ok g → row_of x (probe x identity) ≡ Ok row
     → (all (λ c. is_some (cell_of x row c)) (home ∷ needed_codes lengths) ≡ true)
-    × ((c : ℕ) → g c ≡ (if has (needed_codes lengths) c then cell_of x row c else none))
+    × ((c : ℕ) → g c ≡ (if has (needed_codes lengths) c then cell_of x row c else None))
 unfolding row_contributions
 row_given x width lengths identity home at size row g q r =
     let q1 = goes_on (row_of x (probe x identity)) _ row g r q in
@@ -50,7 +42,7 @@ row_given x width lengths identity home at size row g q r =
     (c1.0, λ c. ap (λ (f : BySection (Option Contribution)). f c) (sym (pass_inj c3.1)))
 
 -- ---- a cell of an index that was written is its row's own, or zeros
-pub cell_written : (version : ℕ) (rs : List Row) (t : Slots) (k c : ℕ) (d : Contribution) → k < length rs → cell_of (written version rs t) (k + 1) c ≡ some d
+pub cell_written : (version : ℕ) (rs : List Row) (t : Slots) (k c : ℕ) (d : Contribution) → k < length rs → cell_of (written version rs t) (k + 1) c ≡ Some d
     → (d.offset ≡ offset_of ((get_or rs k no_row).cells c)) × (d.size ≡ size_of ((get_or rs k no_row).cells c)) × (any_has rs c ≡ true)
 cell_written version rs t k c d h q = ⊎_elim
     (λ (y : any_has rs c ≡ true). from y (column_in (columns_of version) c) refl)
@@ -59,7 +51,7 @@ cell_written version rs t k c d h q = ⊎_elim
   where
     from : any_has rs c ≡ true → (o : Option ℕ) → column_in (columns_of version) c ≡ o
         → (d.offset ≡ offset_of ((get_or rs k no_row).cells c)) × (d.size ≡ size_of ((get_or rs k no_row).cells c)) × (any_has rs c ≡ true)
-    from y (some m) z =
+    from y (Some m) z =
         let w : record { offset = offset_of ((get_or rs k no_row).cells c); size = size_of ((get_or rs k no_row).cells c) } ≡ d = some_inj (sym (cell_there version rs t k c m h z y) ∙ q) in
         (ap (λ (v : Contribution). v.offset) (sym w), ap (λ (v : Contribution). v.size) (sym w), y)
-    from y none z = some_none (sym q ∙ cell_without version rs t (k + 1) c z)
+    from y None z = some_none (sym q ∙ cell_without version rs t (k + 1) c z)

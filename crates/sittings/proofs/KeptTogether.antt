@@ -1,13 +1,7 @@
 -- The kept units of all objects together, and of the package's object with further ones: alike, home by home, and with the same columns.
-use mathlib.Core.Path.{◌≡◌, refl, sym, ap, ap₂, ◌∙◌, subst}
-use mathlib.Core.Logic.{◌⊎◌, inl, inr, ⊎_elim}
-use mathlib.Core.Bool.{Bool, true, false}
-use mathlib.Core.List.{List, [], ◌∷◌, ◌++◌, append-nil, append_assoc}
-use mathlib.Core.Option.{Option, some, none}
-use Prim.Native.Nat.{ℕ, ◌+◌}
-use lib.Dec.{eqb}
-use lib.ListN.{length}
-use borrow.Author.Tests.{eqb-true, eqb-false}
+use Rattle.std.proofs.Common.{◌||◌, ◌≡◌, refl, sym, ap, ap₂, ◌∙◌, subst, ◌⊎◌, inl, inr, ⊎_elim, Bool, true, false, List, [], ◌∷◌, ◌++◌, append-nil, append_assoc, ℕ, ◌+◌, eqb, length, eqb-true}
+use Rattle.std.specs.Prelude.{Option, if◌then◌else◌, Some, None}
+use borrow.Author.Tests.{eqb-false}
 use Rattle.octets.specs.Lists.{any, those, has}
 use Rattle.octets.proofs.Checks.{known, true_false, both_ways}
 use Rattle.octets.proofs.Lists.{any_stops, any_cases, any_more}
@@ -24,7 +18,6 @@ use Rattle.sittings.proofs.Rebased.{Both, none as done, more, Sees, sees_append,
 use Rattle.sittings.proofs.Alike.{Alike}
 use Rattle.package.proofs.Cells.{cell_home, cell_some, cell_none}
 use Rattle.sittings.proofs.PackageWalk.{AgainIn}
-use Rattle.std.specs.Prelude.{if◌then◌else◌}
 
 -- ---- units that are added to others
 unfoldable pub added : List Filed → List Filed → List Filed
@@ -46,8 +39,7 @@ unfolding is_under rebased
 under_moved t x u v m = sym (ap (is_under t x) m.is)
 
 sees_one : (u v : Filed) → ((t x : ℕ) → is_under t x u ≡ is_under t x v) → Sees (u ∷ []) (v ∷ [])
-unfolding any
-sees_one u v h t x = ap (λ (b : Bool). (if b then true else false)) (h t x)
+sees_one u v h t x = ap (λ (b : Bool). (b || false)) (h t x)
 
 -- the same ones are added to what has seen the same
 pub added_moved : (ks ks' us vs : List Filed) → Sees ks ks' → Both Moved us vs → Both Moved (added ks us) (added ks' vs)
@@ -75,7 +67,7 @@ added_moved ks ks' (u ∷ us) (v ∷ vs) p (more m b) = ⊎_elim
 -- contributions are to shared sections, and a home is none
 pub record SharedOnly (u : Filed) : Type 0 where
   pub home : has shared u.home ≡ false
-  pub shares : (c : ℕ) (k : Contribution) → u.contributions c ≡ some k → has shared c ≡ true
+  pub shares : (c : ℕ) (k : Contribution) → u.contributions c ≡ Some k → has shared c ≡ true
 
 cells_moved : (u : Filed) (bases : BySection ℕ) → SharedOnly u → Agree u.bases bases → (at c : ℕ) → cells u at c ≡ cells (rebased bases u) at c
 unfolding rebased
@@ -85,8 +77,8 @@ cells_moved u bases s a at c = ⊎_elim
     (known (eqb c u.home))
   where
     away : (c ≡ u.home → ⊥) → (o : Option Contribution) → u.contributions c ≡ o → cells u at c ≡ cells (rebased bases u) at c
-    away n none q = cell_none u at c n q ∙ sym (cell_none (rebased bases u) at c n q)
-    away n (some k) q = cell_some u at c k n q ∙ ap (λ (m : ℕ). some (record { offset = m + k.offset; size = k.size })) (a c (s.shares c k q)) ∙ sym (cell_some (rebased bases u) at c k n q)
+    away n None q = cell_none u at c n q ∙ sym (cell_none (rebased bases u) at c n q)
+    away n (Some k) q = cell_some u at c k n q ∙ ap (λ (m : ℕ). Some (record { offset = m + k.offset; size = k.size })) (a c (s.shares c k q)) ∙ sym (cell_some (rebased bases u) at c k n q)
 
 pub moved_alike : (u v : Filed) → SharedOnly u → Moved u v → Alike u v
 unfolding rebased
@@ -111,7 +103,7 @@ pub record Columned (all : ℕ → ℕ → Bool) (u v : Filed) : Type 0 where
 -- rows of a table have a column together
 module _ (t c : ℕ) (all : ℕ → ℕ → Bool) where
   forth : (us vs : List Filed) (before : BySection ℕ) → Both (Columned all) us vs → any_has (rows_from before us t) c ≡ true → any_has (rows_from before vs t) c ≡ true
-  unfolding rows_from entries_from those any row_at
+  unfolding rows_from entries_from row_at
   forth [] (v ∷ vs) before x4 h = elim x4 [ ]
   forth (u ∷ us) [] before x4 h = elim x4 [ ]
   forth [] [] before done h = h
@@ -134,7 +126,7 @@ module _ (t c : ℕ) (all : ℕ → ℕ → Bool) where
       (known (eqb u.table t))
 
   back : (us vs : List Filed) (before : BySection ℕ) → Both (Columned all) us vs → any_has (rows_from before vs t) c ≡ true → (any_has (rows_from before us t) c ≡ true) ⊎ (all t c ≡ true)
-  unfolding rows_from entries_from those any row_at
+  unfolding rows_from entries_from row_at
   back [] (v ∷ vs) before x4 h = elim x4 [ ]
   back (u ∷ us) [] before x4 h = elim x4 [ ]
   back [] [] before done h = inl h
@@ -167,7 +159,7 @@ pub columns_same : (t c : ℕ) (all : ℕ → ℕ → Bool) (us vs : List Filed)
 columns_same t c all us vs b h = both_ways _ _ (forth t c all us vs nothing_before b) (λ y. ⊎_elim (λ z. z) h (back t c all us vs nothing_before b y))
 
 -- a unit read again in the package
-pub again_columned : (i : Input) (ks : List Filed) (u v : Filed) → SharedOnly u → ((c : ℕ) (k : Contribution) → u.contributions c ≡ some k → has (needed_codes (lengths i)) c ≡ true)
+pub again_columned : (i : Input) (ks : List Filed) (u v : Filed) → SharedOnly u → ((c : ℕ) (k : Contribution) → u.contributions c ≡ Some k → has (needed_codes (lengths i)) c ≡ true)
     → AgainIn i ks u v → Columned (λ t c. any_has (rows_of ks t) c) u v
 unfolding is_some
 again_columned i ks u v s needs a = record { alike = a.alike; there = forth'; back = back' }
@@ -182,8 +174,8 @@ again_columned i ks u v s needs a = record { alike = a.alike; there = forth'; ba
     here w at c n = go (w.contributions c) refl
       where
         go : (o : Option Contribution) → w.contributions c ≡ o → is_some (cells w at c) ≡ is_some (w.contributions c)
-        go none q = unfold is_some in (ap is_some (cell_none w at c n q) ∙ sym (ap is_some q))
-        go (some k) q = unfold is_some in (ap is_some (cell_some w at c k n q) ∙ sym (ap is_some q))
+        go None q = unfold is_some in (ap is_some (cell_none w at c n q) ∙ sym (ap is_some q))
+        go (Some k) q = unfold is_some in (ap is_some (cell_some w at c k n q) ∙ sym (ap is_some q))
 
     forth' : (at c : ℕ) → is_some (cells u at c) ≡ true → is_some (cells v at c) ≡ true
     forth' at c h = ⊎_elim
@@ -194,8 +186,8 @@ again_columned i ks u v s needs a = record { alike = a.alike; there = forth'; ba
         (known (eqb c u.home))
       where
         go : (c ≡ u.home → ⊥) → (o : Option Contribution) → u.contributions c ≡ o → has (needed_codes (lengths i)) c ≡ true
-        go n (some k) q = needs c k q
-        go n none q = absurd (true_false h (here u at c n ∙ unfold is_some in (ap is_some q)))
+        go n (Some k) q = needs c k q
+        go n None q = absurd (true_false h (here u at c n ∙ unfold is_some in (ap is_some q)))
 
     back' : (at c : ℕ) → is_some (cells v at c) ≡ true → (is_some (cells u at c) ≡ true) ⊎ (any_has (rows_of ks u.table) c ≡ true)
     back' at c h = ⊎_elim

@@ -1,16 +1,9 @@
 -- What is known of the units that are filed: the home of their table, how they are read, and what the package holds of them.
-use mathlib.Core.Path.{◌≡◌, refl, sym, ap, ◌∙◌, subst}
-use mathlib.Core.Logic.{◌⊎◌, inl, inr, ⊎_elim}
-use mathlib.Core.Bool.{Bool, true, false}
-use mathlib.Core.List.{List, ◌∷◌, ◌++◌}
-use mathlib.Core.Option.{some}
-use Prim.Native.Nat.{ℕ, ◌+◌, ◌≤◌}
-use native.Mathlib.Omega.{arith}
-use lib.Dec.{eqb}
-use borrow.Author.Tests.{eqb-true, eqb-false, eq-eqb}
+use Rattle.std.proofs.Common.{◌≡◌, refl, sym, ap, ◌∙◌, subst, ◌⊎◌, inl, inr, ⊎_elim, Bool, true, false, List, ◌∷◌, ◌++◌, ℕ, ◌+◌, ◌≤◌, arith, eqb, eqb-true, eq-eqb}
+use Rattle.std.specs.Prelude.{if◌then◌else◌, Some, Ok}
+use borrow.Author.Tests.{eqb-false}
 use Rattle.octets.specs.Octets.{part}
 use Rattle.octets.specs.Lists.{has, any}
-use Rattle.octets.specs.Checked.{pass}
 use Rattle.octets.proofs.Checks.{known}
 use Rattle.bundle.specs.Bundle.{Object, body}
 use Rattle.bundle.specs.Encoding.{Encoding, encoding_of}
@@ -37,7 +30,6 @@ use Rattle.sittings.proofs.KeptTogether.{SharedOnly}
 use Rattle.sittings.proofs.Own.{own_abbreviations}
 use Rattle.sittings.proofs.OwnPiece.{IsPiece, own_piece}
 use Rattle.sittings.proofs.PackageUnit.{KeptFacts}
-use Rattle.std.specs.Prelude.{if◌then◌else◌}
 
 -- ---- a unit's home goes by its table
 unfoldable pub home_by : Encoding → ℕ → ℕ
@@ -80,7 +72,7 @@ homed e u g = ⊎_elim
 
 -- ---- a unit's contributions are to shared sections
 pub shared_only : (e : Encoding) (u : Filed) → Good e u → SharedOnly u
-unfolding shared has any
+unfolding shared has
 shared_only e u g = record {
   home = ⊎_elim (λ (h : u.home ≡ 1). ap (has shared) h) (λ (h : u.home ≡ 2). ap (has shared) h) g.homes;
   shares = λ c k q. (g.contributes c k q).0.is_shared;
@@ -92,13 +84,13 @@ not_six e u g z = ⊎_elim (λ (h : u.home ≡ 1). omega arith) (λ (h : u.home 
 -- ---- how it was read
 pub record OwnRead (e : Encoding) (u : Filed) : Type 0 where
   pub abbreviations : List ℕ
-  pub alone : unit_of e u.home abbreviations u.bytes ≡ pass (reading_of u)
+  pub alone : unit_of e u.home abbreviations u.bytes ≡ Ok (reading_of u)
   -- a version 4 unit of info by its own part of abbrev
   pub theirs : is_five e ≡ false → u.home ≡ 1 → abbreviations ≡ contributed u 3
   -- in version 5 its part of str_offsets is a piece
-  pub pieced : is_five e ≡ true → (k : Contribution) → u.contributions 6 ≡ some k → 1 ≤ k.size → IsPiece 0 u.input.pieces k
+  pub pieced : is_five e ≡ true → (k : Contribution) → u.contributions 6 ≡ Some k → 1 ≤ k.size → IsPiece 0 u.input.pieces k
 
-pub own_read : (b : List ℕ) (big : Bool) (first : ℕ) (o : Object) (i : Input) (bases : BySection ℕ) (earlier : List Filed) (u : Filed) → input_of b big first o ≡ pass i
+pub own_read : (b : List ℕ) (big : Bool) (first : ℕ) (o : Object) (i : Input) (bases : BySection ℕ) (earlier : List Filed) (u : Filed) → input_of b big first o ≡ Ok i
     → FiledIn i bases earlier u → OwnRead (encoding_of big first) u
 own_read b big first o i bases earlier u q w =
     let p = input_parts b big first o i q in
@@ -117,8 +109,8 @@ module _ (e : Encoding) (f : Filing) (cu tu : List ℕ) (facts : FilingFacts e n
   abbrev table : List (List ℕ)
   table = string_table f.inputs
 
-  abbreviated : (k : Contribution) → u.contributions 3 ≡ some k → part (bytes_in (section_list f cu tu) 3) (u.bases 3 + k.offset) k.size ≡ contributed u 3
-  unfolding shared has any lengths
+  abbreviated : (k : Contribution) → u.contributions 3 ≡ Some k → part (bytes_in (section_list f cu tu) 3) (u.bases 3 + k.offset) k.size ≡ contributed u 3
+  unfolding shared has lengths
   abbreviated k q =
       let place : u.bases 3 + k.offset ≡ lengths_in l.before 3 + k.offset = omega (arith, l.begins 3) in
       let own = shared_part table l.before u.input l.behind (subst (Every (Sized table)) l.stands (sized e f cu tu facts)) 3 k.offset k.size (g.contributes 3 k q).0.within in

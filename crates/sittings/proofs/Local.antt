@@ -1,15 +1,9 @@
 -- A unit is read from its own bytes: what stands behind it doesn't count, nor do abbreviations but for a unit of info in version 4.
-use mathlib.Core.Path.{◌≡◌, refl, sym, ap, ◌∙◌}
-use mathlib.Core.Logic.{◌⊎◌, ⊎_elim}
-use mathlib.Core.Bool.{true, false, not}
-use mathlib.Core.List.{List, ◌++◌}
-use Prim.Native.Nat.{ℕ}
-use native.Mathlib.Omega.{arith}
-use lib.Dec.{eqb, leb}
-use lib.ListN.{length, take, get_or, length-append}
-use lib.Seq.{take_at, take-length}
+use Rattle.std.proofs.Common.{◌≡◌, refl, sym, ap, ◌∙◌, ◌⊎◌, ⊎_elim, true, false, not, List, ◌++◌, ℕ, arith, eqb, leb, length, take, get_or, length-append, take_at}
+use lib.Seq.{take-length}
 use Rattle.octets.specs.Octets.{number_at}
-use Rattle.octets.specs.Checked.{Check, pass, ◌>>=◌, require}
+use Rattle.std.specs.Prelude.{Result, Ok}
+use Rattle.octets.specs.Checked.{◌>>=◌, require}
 use Rattle.octets.proofs.Checks.{bind_pass, require_pass, pass_inj, known}
 use Rattle.bundle.specs.Encoding.{Encoding}
 use Rattle.bundle.specs.InitialLength.{length_field}
@@ -19,7 +13,7 @@ use Rattle.unit.proofs.Plain.{plain, unit_plain}
 use Rattle.unit.proofs.Alone.{unit_alone}
 
 -- ---- what stands behind
-read_size : (e : Encoding) (home : ℕ) (abbreviations s : List ℕ) (r : UnitRead) → unit_of e home abbreviations s ≡ pass r → unit_size e s ≡ pass r.size
+read_size : (e : Encoding) (home : ℕ) (abbreviations s : List ℕ) (r : UnitRead) → unit_of e home abbreviations s ≡ Ok r → unit_size e s ≡ Ok r.size
 unfolding plain
 read_size e home abbreviations s r q =
     let size = bind_pass (unit_size e s) _ r (sym (unit_plain e home abbreviations s) ∙ q) in
@@ -30,11 +24,11 @@ read_size e home abbreviations s r q =
     let d = require_pass (eqb (get_or u (address_place e) 0) e.address) 11 _ r c.1 in
     let i = bind_pass (identity_of e home abbreviations u) _ r d.1 in
     let z = require_pass (not (eqb i.0.identity 0)) 13 _ r i.2 in
-    size.1 ∙ ap (λ (k : UnitRead). pass k.size) (pass_inj z.1)
+    size.1 ∙ ap (λ (k : UnitRead). Ok k.size) (pass_inj z.1)
 
 -- a unit, read alone, and read with more behind it by other abbreviations
-pub read_behind : (e : Encoding) (home : ℕ) (own other u rest : List ℕ) (r r' : UnitRead) → unit_of e home own u ≡ pass r → r.size ≡ length u
-    → unit_of e home other (u ++ rest) ≡ pass r' → (r'.size ≡ length u) × (unit_of e home other u ≡ pass r')
+pub read_behind : (e : Encoding) (home : ℕ) (own other u rest : List ℕ) (r r' : UnitRead) → unit_of e home own u ≡ Ok r → r.size ≡ length u
+    → unit_of e home other (u ++ rest) ≡ Ok r' → (r'.size ≡ length u) × (unit_of e home other u ≡ Ok r')
 read_behind e home own other u rest r r' q long q' =
     let n = read_size e home own u r q in
     let within = size_field e u r.size n in
@@ -44,7 +38,7 @@ read_behind e home own other u rest r r' q long q' =
     (same, ap (unit_of e home other) (sym (take_at u rest r'.size (sym same))) ∙ (unit_alone e home other (u ++ rest) r' q').alone)
 
 -- ---- abbreviations
-unfoldable read_by : Encoding → (List ℕ → Check Identity) → List ℕ → Check UnitRead
+unfoldable read_by : Encoding → (List ℕ → Result Identity ℕ) → List ℕ → Result UnitRead ℕ
 read_by e f s = do
   size ← unit_size e s
   _ ← require (leb size (length s)) 11
@@ -54,7 +48,7 @@ read_by e f s = do
   _ ← require (eqb (get_or u (address_place e) 0) e.address) 11
   i ← f u
   _ ← require (not (eqb i.identity 0)) 13
-  pass (record { size = size; table = i.table; identity = i.identity })
+  Ok (record { size = size; table = i.table; identity = i.identity })
 
 read_by_law : (e : Encoding) (home : ℕ) (abbreviations s : List ℕ) → unit_of e home abbreviations s ≡ read_by e (identity_of e home abbreviations) s
 unfolding plain read_by
@@ -62,7 +56,7 @@ read_by_law e home abbreviations s = unit_plain e home abbreviations s
 
 -- of version 5, and of types, they aren't read
 pub unread : (e : Encoding) (home : ℕ) (own other s : List ℕ) → (is_five e ≡ true) ⊎ (eqb home 1 ≡ false) → unit_of e home own s ≡ unit_of e home other s
-unread e home own other s c = read_by_law e home own s ∙ ap (λ (f : List ℕ → Check Identity). read_by e f s) (λ k u. same u c k) ∙ sym (read_by_law e home other s)
+unread e home own other s c = read_by_law e home own s ∙ ap (λ (f : List ℕ → Result Identity ℕ). read_by e f s) (λ k u. same u c k) ∙ sym (read_by_law e home other s)
   where
     five : (u : List ℕ) → is_five e ≡ true → identity_of e home own u ≡ identity_of e home other u
     five u t = unfold identity_of in rw (identity_of, t)

@@ -1,14 +1,6 @@
 -- The parts of str_offsets that the rows of a package name are pieces of its objects.
-use mathlib.Core.Path.{◌≡◌, refl, sym, ap, ap₂, ◌∙◌, subst}
-use mathlib.Core.Logic.{⊎_elim}
-use mathlib.Core.Bool.{Bool, true, false}
-use mathlib.Core.List.{List, ◌∷◌, ◌++◌, append_assoc}
-use mathlib.Core.Option.{Option, some, none}
-use Prim.Native.Nat.{ℕ, zero, suc, ◌+◌, ◌<◌, ◌≤◌}
-use native.Mathlib.Omega.{arith}
-use lib.Dec.{leb}
-use lib.ListN.{length, get_or, length-append}
-use borrow.Author.Tests.{leb-true}
+use Rattle.std.proofs.Common.{◌≡◌, refl, sym, ap, ap₂, ◌∙◌, subst, ⊎_elim, Bool, true, false, List, ◌∷◌, ◌++◌, append_assoc, ℕ, zero, suc, ◌+◌, ◌<◌, ◌≤◌, arith, leb, length, get_or, length-append, leb-true}
+use Rattle.std.specs.Prelude.{Option, Some, None}
 use Rattle.octets.specs.Lists.{joined}
 use Rattle.octets.proofs.Checks.{known}
 use Rattle.octets.proofs.Joined.{map-append, joined_append}
@@ -40,15 +32,15 @@ use Rattle.sittings.proofs.Strung.{pieces_in, pieces_append, bytes_length, start
 
 -- ---- rows that name
 module _ (P : Contribution → Type 0) where
-  in_each : (o : Option Contribution) → ((d : Contribution) → o ≡ some d → 1 ≤ d.size → P d) → Every P (named_in o)
+  in_each : (o : Option Contribution) → ((d : Contribution) → o ≡ Some d → 1 ≤ d.size → P d) → Every P (named_in o)
   unfolding named_in not_empty
-  in_each none h = nothing
-  in_each (some d) h = ⊎_elim
+  in_each None h = nothing
+  in_each (Some d) h = ⊎_elim
       (λ (t : leb 1 d.size ≡ true). rw (named_in, not_empty, t) (also (h d refl (leb-true 1 d.size t)) nothing))
       (λ (t : leb 1 d.size ≡ false). rw (named_in, not_empty, t) nothing)
       (known (leb 1 d.size))
 
-  by_each : (x : Index) (n : ℕ) → ((k : ℕ) → k < n → (d : Contribution) → cell_of x (k + 1) 6 ≡ some d → 1 ≤ d.size → P d) → Every P (named_by x (row_numbers n))
+  by_each : (x : Index) (n : ℕ) → ((k : ℕ) → k < n → (d : Contribution) → cell_of x (k + 1) 6 ≡ Some d → 1 ≤ d.size → P d) → Every P (named_by x (row_numbers n))
   unfolding named_by row_numbers
   by_each x zero h = nothing
   by_each x (suc n) h =
@@ -59,7 +51,7 @@ module _ (P : Contribution → Type 0) where
   abbrev pub Names : Row → Type 0
   Names r = 1 ≤ size_of (r.cells 6) → P (record { offset = offset_of (r.cells 6); size = size_of (r.cells 6) })
 
-  written_each : (version : ℕ) (rs : List Row) (t : Slots) → Every Names rs → Every P (named (some (written version rs t)))
+  written_each : (version : ℕ) (rs : List Row) (t : Slots) → Every Names rs → Every P (named (Some (written version rs t)))
   unfolding named written
   written_each version rs t e = by_each (written version rs t) (length rs) (λ k l d q n.
       let w = cell_written version rs t k 6 d l q in
@@ -68,8 +60,8 @@ module _ (P : Contribution → Type 0) where
 
   pub table_each : (big : Bool) (version : ℕ) (rs : List Row) (o : Option Index) → TableIs big version rs o → Every Names rs → Every P (named o)
   unfolding named
-  table_each big version rs none (empty z) e = nothing
-  table_each big version rs (some y) (full s x) e = written_each version rs x.slots e
+  table_each big version rs None (empty z) e = nothing
+  table_each big version rs (Some y) (full s x) e = written_each version rs x.slots e
 
 -- ---- a kept unit names a piece
 -- the pieces of its object among those of all
@@ -85,7 +77,7 @@ all_split before behind i front back p z =
 module _ (e : Encoding) (table : List (List ℕ)) (inputs : List Input) (facts : Every (InputFacts e) inputs) (strung : Every (PieceFacts e table) (pieces_in inputs)) where
   -- it starts where a tile does
   abbrev pub Starts : Contribution → Type 0
-  Starts c = starts_at (tiles_of 0 (pieces_in inputs)) c.offset ≡ some c.size
+  Starts c = starts_at (tiles_of 0 (pieces_in inputs)) c.offset ≡ Some c.size
 
   unit_starts : (u : Filed) (k : Contribution) → Lies nothing_before inputs u → IsPiece 0 u.input.pieces k → Starts (record { offset = u.bases 6 + k.offset; size = k.size })
   unit_starts u k l p =
@@ -98,27 +90,27 @@ module _ (e : Encoding) (table : List (List ℕ)) (inputs : List Input) (facts :
       ap length (ap joined (map-append (λ (q : Piece). q.bytes) (pieces_in l.before) p.before) ∙ joined_append (bytes_of (pieces_in l.before)) (bytes_of p.before))
       ∙ length-append (joined (bytes_of (pieces_in l.before))) (joined (bytes_of p.before)) ∙ ap (λ (n : ℕ). n + length (joined (bytes_of p.before))) earlier in
       let place : u.bases 6 + k.offset ≡ 0 + length (joined (bytes_of front)) = omega (arith, l.begins 6, p.begins, long) in
-      (λ j. starts_at (tiles_of 0 (split j)) (place j)) ∙ starts_tile 0 front p.piece back filled ∙ ap some (sym p.long)
+      (λ j. starts_at (tiles_of 0 (split j)) (place j)) ∙ starts_tile 0 front p.piece back filled ∙ ap Some (sym p.long)
 
   pub rows_start : (ks : List Filed) (t : ℕ) → ((xs : List Filed) (u : Filed) (ys : List Filed) → ks ≡ xs ++ (u ∷ ys)
-      → (u.home ≡ 6 → ⊥) × Lies nothing_before inputs u × ((k : Contribution) → u.contributions 6 ≡ some k → 1 ≤ k.size → IsPiece 0 u.input.pieces k)) → Every (Names Starts) (rows_of ks t)
+      → (u.home ≡ 6 → ⊥) × Lies nothing_before inputs u × ((k : Contribution) → u.contributions 6 ≡ Some k → 1 ≤ k.size → IsPiece 0 u.input.pieces k)) → Every (Names Starts) (rows_of ks t)
   unfolding row_at
   rows_start ks t h = each_row (Names Starts) t ks (λ xs u ys q. let w = h xs u ys q in one u (behind_all nothing_before xs u.home) (λ z. w.0 (sym z)) w.1 w.2 (u.contributions 6) refl)
     where
-      one : (u : Filed) (at : ℕ) → (6 ≡ u.home → ⊥) → Lies nothing_before inputs u → ((k : Contribution) → u.contributions 6 ≡ some k → 1 ≤ k.size → IsPiece 0 u.input.pieces k)
+      one : (u : Filed) (at : ℕ) → (6 ≡ u.home → ⊥) → Lies nothing_before inputs u → ((k : Contribution) → u.contributions 6 ≡ Some k → 1 ≤ k.size → IsPiece 0 u.input.pieces k)
           → (o : Option Contribution) → u.contributions 6 ≡ o → 1 ≤ size_of (cells u at 6) → Starts (record { offset = offset_of (cells u at 6); size = size_of (cells u at 6) })
-      one u at n l p none o s = absurd (omega (arith, s, ap size_of (cell_none u at 6 n o) ∙ none_size))
+      one u at n l p None o s = absurd (omega (arith, s, ap size_of (cell_none u at 6 n o) ∙ none_size))
         where
-          none_size : size_of none ≡ 0
+          none_size : size_of None ≡ 0
           none_size = unfold size_of in refl
-      one u at n l p (some k) o s =
+      one u at n l p (Some k) o s =
           let own = cell_some u at 6 k n o in
           subst (λ (d : Option Contribution). Starts (record { offset = offset_of d; size = size_of d })) (sym own)
           (shown (unit_starts u k l (p k o (shown_size (subst (λ (d : Option Contribution). 1 ≤ size_of d) own s)))))
         where
           shown : Starts (record { offset = u.bases 6 + k.offset; size = k.size })
-              → Starts (record { offset = offset_of (some (record { offset = u.bases 6 + k.offset; size = k.size })); size = size_of (some (record { offset = u.bases 6 + k.offset; size = k.size })) })
+              → Starts (record { offset = offset_of (Some (record { offset = u.bases 6 + k.offset; size = k.size })); size = size_of (Some (record { offset = u.bases 6 + k.offset; size = k.size })) })
           shown z = unfold offset_of size_of in z
 
-          shown_size : 1 ≤ size_of (some (record { offset = u.bases 6 + k.offset; size = k.size })) → 1 ≤ k.size
+          shown_size : 1 ≤ size_of (Some (record { offset = u.bases 6 + k.offset; size = k.size })) → 1 ≤ k.size
           shown_size z = unfold size_of in z

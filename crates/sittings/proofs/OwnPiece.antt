@@ -1,17 +1,9 @@
 -- Version 5: what a unit contributes of str_offsets, where it has bytes, is one piece of its object's.
-use mathlib.Core.Path.{◌≡◌, refl, sym, ap, ◌∙◌, subst}
-use mathlib.Core.Logic.{⊎_elim}
-use mathlib.Core.Bool.{Bool, true, false, not, ◌||◌}
-use mathlib.Core.List.{List, [], ◌∷◌, ◌++◌}
-use mathlib.Core.Option.{Option, some, none}
-use Prim.Native.Nat.{ℕ, ◌+◌, ◌≤◌}
-use native.Mathlib.Omega.{arith}
-use lib.Dec.{eqb}
-use lib.ListN.{length, length-append}
+use Rattle.std.proofs.Common.{◌≡◌, refl, sym, ap, ◌∙◌, subst, ⊎_elim, Bool, true, false, not, ◌||◌, List, [], ◌∷◌, ◌++◌, ℕ, ◌+◌, ◌≤◌, arith, eqb, length, length-append}
+use Rattle.std.specs.Prelude.{Option, if◌then◌else◌, Some, None, Result, Ok}
 use borrow.Author.Tests.{not-true}
 use Rattle.octets.specs.Octets.{part}
 use Rattle.octets.specs.Lists.{joined, any}
-use Rattle.octets.specs.Checked.{Check, pass}
 use Rattle.octets.proofs.Checks.{bind_pass, require_pass, pass_inj, pass_refuse, known, and_both, or_left, or_right}
 use Rattle.octets.proofs.Parts.{length_part}
 use Rattle.bundle.specs.Bundle.{Part, Object, body}
@@ -31,7 +23,6 @@ use Rattle.package.proofs.Inputs.{IndexRead, absent_body, index_read, opened_par
 use Rattle.package.proofs.Units.{reading_of, unit_taken}
 use Rattle.octets.proofs.Options.{some_none}
 use Rattle.sittings.proofs.Filed.{FiledIn}
-use Rattle.std.specs.Prelude.{if◌then◌else◌}
 
 -- a part that is one of the pieces, which stand from a place on
 pub record IsPiece (at : ℕ) (ps : List Piece) (k : Contribution) : Type 0 where
@@ -43,7 +34,6 @@ pub record IsPiece (at : ℕ) (ps : List Piece) (k : Contribution) : Type 0 wher
   pub long : k.size ≡ length piece.bytes
 
 piece_later : (at : ℕ) (p : Piece) (ps : List Piece) (k : Contribution) (n : ℕ) → length p.bytes ≡ n → IsPiece (at + n) ps k → IsPiece at (p ∷ ps) k
-unfolding joined
 piece_later at p ps k n l r = record {
   before = p ∷ r.before;
   piece = r.piece;
@@ -54,9 +44,9 @@ piece_later at p ps k n l r = record {
 }
 
 -- ---- a tile
-tile_piece : (e : Encoding) (str s : List ℕ) (at : ℕ) (ts : List Contribution) (ps : List Piece) (c : Contribution) → pieces_of e str s ts ≡ pass ps → Tiling at (length s) ts
+tile_piece : (e : Encoding) (str s : List ℕ) (at : ℕ) (ts : List Contribution) (ps : List Piece) (c : Contribution) → pieces_of e str s ts ≡ Ok ps → Tiling at (length s) ts
     → is_one ts c ≡ true → IsPiece at ps c
-unfolding pieces_of Tiling joined
+unfolding pieces_of Tiling
 tile_piece e str s at [] ps c q t h = absurd (one_none c h)
 tile_piece e str s at (d ∷ ts) ps c q t h =
     let p = bind_pass (piece_of e str (part s d.offset d.size)) _ ps q in
@@ -76,7 +66,7 @@ tile_piece e str s at (d ∷ ts) ps c q t h =
     (λ z. piece_later at p.0 r.0 c d.size own (tile_piece e str s (at + d.size) ts r.0 c r.1 t.2 z))
     (one_cases c d ts h))
 
-tiled_piece : (e : Encoding) (bytes : BySection (List ℕ)) (cu tu : Option Index) (ps : List Piece) (c : Contribution) → tiled_pieces e bytes cu tu ≡ pass ps
+tiled_piece : (e : Encoding) (bytes : BySection (List ℕ)) (cu tu : Option Index) (ps : List Piece) (c : Contribution) → tiled_pieces e bytes cu tu ≡ Ok ps
     → is_one (named cu ++ named tu) c ≡ true → IsPiece 0 ps c
 unfolding tiled_pieces
 tiled_piece e bytes cu tu ps c q h =
@@ -85,9 +75,9 @@ tiled_piece e bytes cu tu ps c q h =
     tile_piece e (bytes 11) (bytes 6) 0 ts.0 ps c ts.2 f.tiling (f.each c h)
 
 -- ---- the whole
-whole_piece : (e : Encoding) (b : List ℕ) (qs : List Part) (ps : List Piece) (k : Contribution) → whole_pieces e qs (body b qs) ≡ pass ps
+whole_piece : (e : Encoding) (b : List ℕ) (qs : List Part) (ps : List Piece) (k : Contribution) → whole_pieces e qs (body b qs) ≡ Ok ps
     → k.offset ≡ 0 → k.size ≡ length (body b qs 6) → 1 ≤ k.size → IsPiece 0 ps k
-unfolding whole_pieces joined
+unfolding whole_pieces
 whole_piece e b qs ps k q o z n = ⊎_elim
     (λ (t : present qs 6 ≡ true).
     let p = bind_pass (piece_of e (body b qs 11) (body b qs 6)) _ ps (rw (whole_pieces, t) at q) in
@@ -97,28 +87,28 @@ whole_piece e b qs ps k q o z n = ⊎_elim
     (known (present qs 6))
 
 -- ---- by its row, or whole
-module _ (i : Input) (cu_read : (x : Index) → i.cu_index ≡ some x → IndexRead x) (tu_read : (x : Index) → i.tu_index ≡ some x → IndexRead x) where
-  table_read : (table : ℕ) (x : Index) → index_for i table ≡ some x → IndexRead x
+module _ (i : Input) (cu_read : (x : Index) → i.cu_index ≡ Some x → IndexRead x) (tu_read : (x : Index) → i.tu_index ≡ Some x → IndexRead x) where
+  table_read : (table : ℕ) (x : Index) → index_for i table ≡ Some x → IndexRead x
   unfolding index_for
   table_read table x t = ⊎_elim
       (λ (z : eqb table 1 ≡ true). cu_read x (rw (index_for, z) at t)) (λ (z : eqb table 1 ≡ false). tu_read x (rw (index_for, z) at t)) (known (eqb table 1))
 
-  table_one : (table : ℕ) (x : Index) (c : Contribution) → index_for i table ≡ some x → is_one (named (some x)) c ≡ true → is_one (named i.cu_index ++ named i.tu_index) c ≡ true
+  table_one : (table : ℕ) (x : Index) (c : Contribution) → index_for i table ≡ Some x → is_one (named (Some x)) c ≡ true → is_one (named i.cu_index ++ named i.tu_index) c ≡ true
   unfolding index_for
   table_one table x c t h = ⊎_elim
       (λ (z : eqb table 1 ≡ true). one_left (named i.cu_index) (named i.tu_index) c (ap (λ (o : Option Index). is_one (named o) c) (rw (index_for, z) at t) ∙ h))
       (λ (z : eqb table 1 ≡ false). one_right (named i.cu_index) (named i.tu_index) c (ap (λ (o : Option Index). is_one (named o) c) (rw (index_for, z) at t) ∙ h))
       (known (eqb table 1))
 
-  is_package_law : (table : ℕ) (x : Index) → is_five i.encoding ≡ true → index_for i table ≡ some x → is_package i ≡ true
+  is_package_law : (table : ℕ) (x : Index) → is_five i.encoding ≡ true → index_for i table ≡ Some x → is_package i ≡ true
   unfolding is_package index_for is_some
   is_package_law table x f t = and_both (is_five i.encoding) (is_some i.cu_index || is_some i.tu_index) f (⊎_elim
       (λ (z : eqb table 1 ≡ true). or_left _ _ (ap is_some (rw (index_for, z) at t)))
       (λ (z : eqb table 1 ≡ false). or_right (is_some i.cu_index) _ (ap is_some (rw (index_for, z) at t)))
       (known (eqb table 1)))
 
-  by_row : (table identity home at size : ℕ) (x : Index) (g : BySection (Option Contribution)) (k : Contribution) → index_for i table ≡ some x
-      → row_contributions x i.encoding.width (lengths i) identity home at size ≡ pass g → g 6 ≡ some k → 1 ≤ k.size → is_one (named i.cu_index ++ named i.tu_index) k ≡ true
+  by_row : (table identity home at size : ℕ) (x : Index) (g : BySection (Option Contribution)) (k : Contribution) → index_for i table ≡ Some x
+      → row_contributions x i.encoding.width (lengths i) identity home at size ≡ Ok g → g 6 ≡ Some k → 1 ≤ k.size → is_one (named i.cu_index ++ named i.tu_index) k ≡ true
   by_row table identity home at size x g k t q h n =
       let cells = row_cells x i.encoding.width (lengths i) identity home at size g q in
       let read = table_read table x t in
@@ -128,33 +118,33 @@ module _ (i : Input) (cu_read : (x : Index) → i.cu_index ≡ some x → IndexR
   module _ (pieces-tiled : is_package i ≡ true → (k : Contribution) → is_one (named i.cu_index ++ named i.tu_index) k ≡ true → IsPiece 0 i.pieces k)
       (pieces_whole : is_package i ≡ false → (k : Contribution) → k.offset ≡ 0 → k.size ≡ length (i.bytes 6) → 1 ≤ k.size → IsPiece 0 i.pieces k)
       (five : is_five i.encoding ≡ true) where
-    filed_piece : (home at : ℕ) (r : UnitRead) (g : BySection (Option Contribution)) (k : Contribution) → contributions_of i home at r ≡ pass g → g 6 ≡ some k → 1 ≤ k.size
+    filed_piece : (home at : ℕ) (r : UnitRead) (g : BySection (Option Contribution)) (k : Contribution) → contributions_of i home at r ≡ Ok g → g 6 ≡ Some k → 1 ≤ k.size
         → IsPiece 0 i.pieces k
     unfolding contributions_of lengths
     filed_piece home at r g k q h n = from (index_for i r.table) refl
       where
         from : (o : Option Index) → index_for i r.table ≡ o → IsPiece 0 i.pieces k
-        from (some x) t = pieces-tiled (is_package_law r.table x five t) k (by_row r.table r.identity home at r.size x g k t (rw (contributions_of, t) at q) h n)
-        from none t =
-            let w = require_pass (not (is_package i)) 15 (λ _. pass (whole_contributions (lengths i))) g (rw (contributions_of, t) at q) in
+        from (Some x) t = pieces-tiled (is_package_law r.table x five t) k (by_row r.table r.identity home at r.size x g k t (rw (contributions_of, t) at q) h n)
+        from None t =
+            let w = require_pass (not (is_package i)) 15 (λ _. Ok (whole_contributions (lengths i))) g (rw (contributions_of, t) at q) in
             let c = whole_contributed i.encoding.width (lengths i) 6 k (ap (λ (f : BySection (Option Contribution)). f 6) (pass_inj w.1) ∙ h) in
             pieces_whole (not-true (is_package i) w.0) k c.1.0 c.1.1 n
 
 -- a skipped unit contributes nothing
-skipped_none : (table : ℕ) (g : BySection (Option Contribution)) (c : ℕ) (k : Contribution) → skipped table ≡ pass g → g c ≡ some k → ⊥
+skipped_none : (table : ℕ) (g : BySection (Option Contribution)) (c : ℕ) (k : Contribution) → skipped table ≡ Ok g → g c ≡ Some k → ⊥
 unfolding skipped
 skipped_none table g c k q h = ⊎_elim
     (λ (t : eqb table 1 ≡ true). pass_refuse g 14 (sym (rw (skipped, t) at q)))
     (λ (t : eqb table 1 ≡ false). some_none (sym h ∙ ap (λ (f : BySection (Option Contribution)). f c) (sym (pass_inj (rw (skipped, t) at q)))))
     (known (eqb table 1))
 
-seen_or : (seen : Bool) (table : ℕ) (m : Check (BySection (Option Contribution))) (g : BySection (Option Contribution)) (c : ℕ) (k : Contribution) → g c ≡ some k
-    → (if seen then skipped table else m) ≡ pass g → m ≡ pass g
+seen_or : (seen : Bool) (table : ℕ) (m : Result (BySection (Option Contribution)) ℕ) (g : BySection (Option Contribution)) (c : ℕ) (k : Contribution) → g c ≡ Some k
+    → (if seen then skipped table else m) ≡ Ok g → m ≡ Ok g
 seen_or true table m g c k h q = absurd (skipped_none table g c k q h)
 seen_or false table m g c k h q = q
 
-pub own_piece : (b : List ℕ) (big : Bool) (first : ℕ) (o : Object) (i : Input) → input_of b big first o ≡ pass i → is_five i.encoding ≡ true
-    → (bases : BySection ℕ) (earlier : List Filed) (u : Filed) → FiledIn i bases earlier u → (k : Contribution) → u.contributions 6 ≡ some k → 1 ≤ k.size → IsPiece 0 u.input.pieces k
+pub own_piece : (b : List ℕ) (big : Bool) (first : ℕ) (o : Object) (i : Input) → input_of b big first o ≡ Ok i → is_five i.encoding ≡ true
+    → (bases : BySection ℕ) (earlier : List Filed) (u : Filed) → FiledIn i bases earlier u → (k : Contribution) → u.contributions 6 ≡ Some k → 1 ≤ k.size → IsPiece 0 u.input.pieces k
 own_piece b big first o i q five bases earlier u w k h n =
     let e = encoding_of big o.word in
     let ps = o.parts in

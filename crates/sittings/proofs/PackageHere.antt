@@ -1,15 +1,7 @@
 -- The package's object in the second sitting: its units are the kept ones, none is skipped.
-use mathlib.Core.Path.{◌≡◌, refl, sym, ap, ap₂, ◌∙◌}
-use mathlib.Core.Logic.{⊎_elim}
-use mathlib.Core.Bool.{Bool, true, false, ◌||◌}
-use mathlib.Core.List.{List, [], ◌∷◌, ◌++◌, append-nil}
-use Prim.Native.Nat.{ℕ, suc, ◌≤◌}
-use native.Mathlib.Omega.{arith}
-use lib.Dec.{eqb}
-use lib.ListN.{length}
-use borrow.Author.Tests.{leb-false}
+use Rattle.std.proofs.Common.{◌≡◌, refl, sym, ap, ap₂, ◌∙◌, ⊎_elim, Bool, true, false, ◌||◌, List, [], ◌∷◌, ◌++◌, append-nil, ℕ, suc, ◌≤◌, arith, eqb, length, leb-false}
 use Rattle.octets.specs.Lists.{any, those, has, distinct}
-use Rattle.octets.specs.Checked.{pass, ◌>>=◌}
+use Rattle.octets.specs.Checked.{◌>>=◌}
 use Rattle.octets.proofs.Checks.{bind_pass, pass_inj, known, true_false, or_neither, or_fails_left, or_fails_right}
 use Rattle.octets.proofs.Lists.{those_keeps, those_skips, any_append}
 use Rattle.octets.proofs.Elements.{has_append, has_cons, has_skips, distinct_head, distinct_tail, no_length}
@@ -23,7 +15,7 @@ use Rattle.package.proofs.Rows.{behind_all, nothing_before}
 use Rattle.sittings.proofs.Rebased.{Both, none, more, Sees}
 use Rattle.sittings.proofs.Alike.{Alike, of_home}
 use Rattle.sittings.proofs.PackageWalk.{AgainIn, walk, none_those, home_skips, home_append, under_alike}
-use Rattle.std.specs.Prelude.{if◌then◌else◌}
+use Rattle.std.specs.Prelude.{Ok}
 
 -- ---- each kept unit is alone under its identity
 pub distinct_middle : (xs : List ℕ) (x : ℕ) (ys : List ℕ) → distinct (xs ++ (x ∷ ys)) ≡ true → has (xs ++ ys) x ≡ false
@@ -66,7 +58,7 @@ module _ (us : List Filed) (xs : List Filed) (u : Filed) (ys : List Filed) (e : 
 
 -- ---- a section without bytes changes nothing
 pub all_sections : (i : Input) (bases : BySection ℕ) (earlier here : List Filed) (ss : List Section) → units_in i bases earlier here (those non_empty ss) ≡ units_in i bases earlier here ss
-unfolding those units_in
+unfolding units_in
 all_sections i bases earlier here [] = refl
 all_sections i bases earlier here (s ∷ ss) = ⊎_elim
     (λ (t : non_empty s ≡ true). ap (units_in i bases earlier here) (those_keeps non_empty s ss t)
@@ -86,24 +78,23 @@ both_alike none = none
 both_alike (more a b) = more a.alike (both_alike b)
 
 pub sees_alike : (us vs : List Filed) → Both Alike us vs → Sees vs us
-unfolding any
 sees_alike [] (v ∷ vs) x5 t x = elim x5 [ ]
 sees_alike (u ∷ us) [] x6 t x = elim x6 [ ]
 sees_alike [] [] none t x = refl
 sees_alike (u ∷ us) (v ∷ vs) (more p b) t x =
-    ap₂ (λ (a r : Bool). (if a then true else r)) (sym (under_alike t x u v p)) (sees_alike us vs b t x)
+    ap₂ (λ (a r : Bool). (a || r)) (sym (under_alike t x u v p)) (sees_alike us vs b t x)
 
 abbrev of : ℕ → List ℕ → Section
 of c s = record { code = c; bytes = s }
 
 module _ (i : Input) (us : List Filed) (some : (xs : List Filed) (u : Filed) (ys : List Filed) → kept us ≡ xs ++ (u ∷ ys) → 1 ≤ length u.bytes)
     (again : (xs : List Filed) (u : Filed) (ys : List Filed) → kept us ≡ xs ++ (u ∷ ys) → (here : List Filed) (rest : List ℕ) (v : Filed)
-    → any (is_under u.table u.identity) here ≡ false → unit_at i (λ c. 0) [] here u.home (behind_all nothing_before xs u.home) (u.bytes ++ rest) ≡ pass v → AgainIn i (kept us) u v) where
+    → any (is_under u.table u.identity) here ≡ false → unit_at i (λ c. 0) [] here u.home (behind_all nothing_before xs u.home) (u.bytes ++ rest) ≡ Ok v → AgainIn i (kept us) u v) where
   abbrev ks : List Filed
   ks = kept us
 
   again_at : (h : ℕ) (xs : List Filed) (u : Filed) (ys : List Filed) → ks ≡ xs ++ (u ∷ ys) → u.home ≡ h → (here : List Filed) (rest : List ℕ) (v : Filed)
-      → any (is_under u.table u.identity) here ≡ false → unit_at i (λ c. 0) [] here h (behind_all nothing_before xs h) (u.bytes ++ rest) ≡ pass v → AgainIn i ks u v
+      → any (is_under u.table u.identity) here ≡ false → unit_at i (λ c. 0) [] here h (behind_all nothing_before xs h) (u.bytes ++ rest) ≡ Ok v → AgainIn i ks u v
   again_at h xs u ys e z here rest v f q = again xs u ys e here rest v f (ap (λ (n : ℕ). unit_at i (λ c. 0) [] here n (behind_all nothing_before xs n) (u.bytes ++ rest)) z ∙ q)
 
   -- what the package's object files
@@ -118,8 +109,8 @@ module _ (i : Input) (us : List Filed) (some : (xs : List Filed) (u : Filed) (ys
   unfolding behind_all
   start h = refl
 
-  pub package_files : (here : List Filed) → units_in i (λ c. 0) [] [] (of 1 (unit_bytes ks 1) ∷ of 2 (unit_bytes ks 2) ∷ []) ≡ pass here → Filed-again here
-  unfolding units_in those
+  pub package_files : (here : List Filed) → units_in i (λ c. 0) [] [] (of 1 (unit_bytes ks 1) ∷ of 2 (unit_bytes ks 2) ∷ []) ≡ Ok here → Filed-again here
+  unfolding units_in
   package_files here q =
       let a = bind_pass (units_from (suc (length (unit_bytes ks 1))) i (λ c. 0) [] [] 1 0 (unit_bytes ks 1)) _ here q in
       let b = bind_pass (units_from (suc (length (unit_bytes ks 2))) i (λ c. 0) [] a.0 2 0 (unit_bytes ks 2)) _ here a.2 in

@@ -1,13 +1,6 @@
 -- The package's object as an input: what it files, and what it gives to the shared sections.
-use mathlib.Core.Path.{◌≡◌, refl, sym, ap, ◌∙◌, subst}
-use mathlib.Core.Logic.{◌⊎◌}
-use mathlib.Core.Bool.{Bool, true}
-use mathlib.Core.List.{List, [], ◌∷◌, map}
-use mathlib.Core.Option.{some}
-use Prim.Native.Nat.{ℕ, ◌+◌, ◌^◌, ◌<◌}
-use native.Mathlib.Omega.{arith}
-use lib.ListN.{length}
-use borrow.Author.Tests.{ne_eqb}
+use Rattle.std.proofs.Common.{◌≡◌, refl, sym, ap, ◌∙◌, subst, ◌⊎◌, Bool, true, List, [], ◌∷◌, map, ℕ, ◌+◌, ◌^◌, ◌<◌, arith, length, ne_eqb}
+use Rattle.std.specs.Prelude.{Some}
 use Rattle.octets.specs.Lists.{has, those, joined, sum}
 use Rattle.bundle.specs.Encoding.{Encoding}
 use Rattle.bundle.specs.Written.{Section}
@@ -67,7 +60,7 @@ module _ (e : Encoding) (big : Bool) (f : Filing) (cu tu : List ℕ) (facts : Fi
       ap length (bytes c ∙ shared_bytes_law f cu tu c h ∙ shared_given table f.inputs c) ∙ length_given table f.inputs c (sized e f cu tu facts) in
       omega (arith, long, grown_all_law (λ d. 0) f.inputs c)
 
-  needs : (u : Filed) → Good e u × Lies nothing_before f.inputs u → (c : ℕ) (k : Contribution) → u.contributions c ≡ some k → has (needed_codes (lengths i)) c ≡ true
+  needs : (u : Filed) → Good e u × Lies nothing_before f.inputs u → (c : ℕ) (k : Contribution) → u.contributions c ≡ Some k → has (needed_codes (lengths i)) c ≡ true
   unfolding lengths
   needs u w c k q = needed_is (lengths i) c (w.0.contributes c k q).0.is_shared (λ z. omega (arith, (cell_shared e f cu tu facts u c k w.0 w.1 q).there, ap length (bytes c)))
 

@@ -1,12 +1,8 @@
 -- Version 5: the pieces of a package's str_offsets are those of its objects, remapped.
-use mathlib.Core.Path.{◌≡◌, refl, sym, ap, ap₂, ◌∙◌, subst}
-use mathlib.Core.List.{List, [], ◌∷◌, ◌++◌, append_assoc}
-use Prim.Native.Nat.{ℕ, ◌+◌, ◌^◌, ◌<◌, ◌≤◌}
-use native.Mathlib.Omega.{arith}
-use lib.ListN.{length, length-append}
+use Rattle.std.proofs.Common.{◌≡◌, refl, sym, ap, ap₂, ◌∙◌, subst, List, [], ◌∷◌, ◌++◌, append_assoc, ℕ, ◌+◌, ◌^◌, ◌<◌, ◌≤◌, arith, length, length-append}
 use Rattle.octets.specs.Octets.{part}
 use Rattle.octets.specs.Lists.{joined}
-use Rattle.octets.specs.Checked.{pass}
+use Rattle.std.specs.Prelude.{Ok}
 use Rattle.octets.proofs.Checks.{bind_pass, pass_inj}
 use Rattle.octets.proofs.Parts.{part_middle}
 use Rattle.bundle.specs.Encoding.{Encoding}
@@ -38,7 +34,7 @@ module _ (e : Encoding) (ok : Sound e) (table : List (List ℕ)) (small : length
 
   -- they tile the section
   pub tiles_of_law : (at : ℕ) (ps : List Piece) → Every (PieceFacts e table) ps → Row at (at + length (remapped_all e table ps)) (tiles_of at ps)
-  unfolding Row tiles_of remapped_all joined
+  unfolding Row tiles_of remapped_all
   tiles_of_law at [] f = omega arith
   tiles_of_law at (p ∷ ps) f =
       let z : at + length p.bytes + length (remapped_all e table ps) ≡ at + length (remapped e table p.bytes p.used ++ remapped_all e table ps) =
@@ -50,7 +46,7 @@ module _ (e : Encoding) (ok : Sound e) (table : List (List ℕ)) (small : length
     pub used : used_in qs ≡ used_in ps
     pub again : (table' : List (List ℕ)) → remapped_all e table' qs ≡ remapped_all e table' ps
 
-  pub pieces_back : (front : List ℕ) (ps qs : List Piece) → Every (PieceFacts e table) ps → pieces_of e (str_of table) (front ++ remapped_all e table ps) (tiles_of (length front) ps) ≡ pass qs → Restrung ps qs
+  pub pieces_back : (front : List ℕ) (ps qs : List Piece) → Every (PieceFacts e table) ps → pieces_of e (str_of table) (front ++ remapped_all e table ps) (tiles_of (length front) ps) ≡ Ok qs → Restrung ps qs
   unfolding pieces_of tiles_of
   pieces_back front [] qs f q = subst (Restrung []) (pass_inj q) (record { used = refl; again = λ t. refl })
   pieces_back front (p ∷ ps) qs f q =
@@ -67,11 +63,11 @@ module _ (e : Encoding) (ok : Sound e) (table : List (List ℕ)) (small : length
       subst (Restrung (p ∷ ps)) (pass_inj b.2) (joined_back p ps a.0 b.0 (each_head f) one on)
     where
       all_cons : (front : List ℕ) → front ++ remapped_all e table (p ∷ ps) ≡ front ++ (remapped e table p.bytes p.used ++ remapped_all e table ps)
-      all_cons front = unfold remapped_all joined in refl
+      all_cons front = unfold remapped_all in refl
 
       joined_back : (p : Piece) (ps : List Piece) (a : Piece) (b : List Piece) → PieceFacts e table p → (a.used ≡ p.used) × (a.bytes ≡ remapped e table p.bytes p.used) → Restrung ps b → Restrung (p ∷ ps) (a ∷ b)
       joined_back p ps a b g one on = record {
         used = unfold used_in in (ap₂ (λ (x y : List (List ℕ)). x ++ y) one.0 on.used);
-        again = λ t. unfold remapped_all joined in (ap₂ (λ (x y : List ℕ). x ++ y)
+        again = λ t. unfold remapped_all in (ap₂ (λ (x y : List ℕ). x ++ y)
             (ap₂ (λ (s : List ℕ) (u : List (List ℕ)). remapped e t s u) one.1 one.0 ∙ remapped_again e ok table small t p.bytes p.used g.whole g.count) (on.again t));
       }

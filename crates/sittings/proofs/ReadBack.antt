@@ -1,18 +1,10 @@
 -- The package's object, read as an input: its sections, its indexes and its strings are those that were written.
-use mathlib.Core.Path.{◌≡◌, refl, sym, ap, ◌∙◌, subst}
-use mathlib.Core.Logic.{◌⊎◌, inl, inr, ⊎_elim}
-use mathlib.Core.Bool.{Bool, true, false, not, ◌&&◌, ◌||◌}
-use mathlib.Core.List.{List, [], ◌∷◌, ◌++◌, map}
-use mathlib.Core.Option.{Option, some, none}
-use Prim.Native.Nat.{ℕ, ◌^◌, ◌<◌, ◌≤◌}
-use native.Mathlib.Nat.{pow-le-pow_right, lt_of_lt_of_le}
-use native.Mathlib.Omega.{arith}
+use Rattle.std.proofs.Common.{◌≡◌, refl, sym, ap, ◌∙◌, subst, ◌⊎◌, inl, inr, ⊎_elim, Bool, true, false, not, ◌&&◌, ◌||◌, List, [], ◌∷◌, ◌++◌, map, ℕ, ◌^◌, ◌<◌, ◌≤◌, lt_of_lt_of_le, arith, eqb, leb, length, length-append, eqb-true, leb-true}
+use Rattle.std.specs.Prelude.{Option, Some, None, Ok}
+use native.Mathlib.Nat.{pow-le-pow_right}
 use native.Mathlib.Decide.{ℕ_discrete}
-use lib.Dec.{eqb, leb}
-use lib.ListN.{length, length-append}
-use borrow.Author.Tests.{eqb-true, eqb-false, leb-true}
+use borrow.Author.Tests.{eqb-false}
 use Rattle.octets.specs.Lists.{those, has, any, joined}
-use Rattle.octets.specs.Checked.{pass}
 use Rattle.octets.proofs.Checks.{bind_pass, require_pass, pass_inj, pass_refuse, fails, known, and_both, and_left, and_right, not_left, or_fails_left, or_fails_right}
 use Rattle.octets.proofs.Lists.{those_keeps, those_skips}
 use Rattle.octets.proofs.Numbers.{Bytes}
@@ -62,8 +54,8 @@ use Rattle.sittings.proofs.Strings.{Kept}
 use Rattle.sittings.proofs.Strung.{pieces_in, used_all, remapped_all_law, used_kept, all_kept, all_facts, strung_four, strung_five}
 
 -- a code without a first part has none
-none_count : (ps : List Part) (c : ℕ) → first_part ps c ≡ none → count ps c ≡ 0
-unfolding first_part count parts_of those
+none_count : (ps : List Part) (c : ℕ) → first_part ps c ≡ None → count ps c ≡ 0
+unfolding first_part count parts_of
 none_count [] c e = refl
 none_count (p ∷ ps) c e = ⊎_elim
     (λ (t : eqb p.code c ≡ true). absurd (let y = rw (first_part, t) at e in let z : ◌≡◌ {A = ℕ} 0 1 = cc in omega arith))
@@ -71,7 +63,7 @@ none_count (p ∷ ps) c e = ⊎_elim
     (known (eqb p.code c))
 
 -- 7 of an object that passed
-input_complete : (b : List ℕ) (big : Bool) (first : ℕ) (o : Object) (i : Input) → input_of b big first o ≡ pass i → complete o.parts ≡ true
+input_complete : (b : List ℕ) (big : Bool) (first : ℕ) (o : Object) (i : Input) → input_of b big first o ≡ Ok i → complete o.parts ≡ true
 unfolding input_of
 input_complete b big first o i q =
     let e = encoding_of big o.word in
@@ -97,7 +89,6 @@ none_kept (u ∷ us) e h =
 
 -- both tests of a list, in either order
 those_both : {A : Type 0} (f g : A → Bool) (xs : List A) → those f (those g xs) ≡ those g (those f xs)
-unfolding those
 those_both f g [] = refl
 those_both {A} f g (x ∷ xs) = go (those_both f g xs) (known (f x)) (known (g x))
   where
@@ -114,7 +105,7 @@ abbrev of : ℕ → List ℕ → Section
 of c s = record { code = c; bytes = s }
 
 list_units : (f : Filing) (cu tu : List ℕ) → those holds_units (section_list f cu tu) ≡ of 1 (unit_bytes (kept f.units) 1) ∷ of 2 (unit_bytes (kept f.units) 2) ∷ []
-unfolding section_list holds_units those
+unfolding section_list holds_units
 list_units f cu tu = refl
 
 abbrev first_of : List Sections → List Section
@@ -150,7 +141,7 @@ module _ (b p : List ℕ) (a : Accepted b p) (h : Bytes b) (o : Object) (os : Li
     | no z ↦ there (section_there b p a o os q c (omega arith))
   ]
     where
-      missing : first_part parts c ≡ none → body p parts c ≡ []
+      missing : first_part parts c ≡ None → body p parts c ≡ []
       missing n = unfold body in rw (body, n)
 
       there : SectionIn p parts c (section c) → body p parts c ≡ section c
@@ -181,11 +172,11 @@ module _ (b p : List ℕ) (a : Accepted b p) (h : Bytes b) (o : Object) (os : Li
       empty_or [] = inl refl
       empty_or (x ∷ xs) = inr (omega arith)
 
-  nothing_read : (big : Bool) (x : Index) (s : List ℕ) → s ≡ [] → index_of big s ≡ pass x → ⊥
+  nothing_read : (big : Bool) (x : Index) (s : List ℕ) → s ≡ [] → index_of big s ≡ Ok x → ⊥
   unfolding index_of
   nothing_read big x s z r = pass_refuse x 10 (sym (ap (index_of big) (sym z) ∙ r) ∙ fails (leb 16 0) 10 _ refl)
 
-  index_is : (t c : ℕ) (x : Option Index) → (t ≡ 1) ⊎ (t ≡ 2) → section c ≡ index_of_table a t → input_index e parts (body p parts) c ≡ pass x → TableIs big e.version (rows_of ks t) x
+  index_is : (t c : ℕ) (x : Option Index) → (t ≡ 1) ⊎ (t ≡ 2) → section c ≡ index_of_table a t → input_index e parts (body p parts) c ≡ Ok x → TableIs big e.version (rows_of ks t) x
   unfolding input_index encoding_of
   index_is t c x d z r = ⊎_elim
       (λ (y : present parts c ≡ true).
@@ -195,14 +186,14 @@ module _ (b p : List ℕ) (a : Accepted b p) (h : Bytes b) (o : Object) (os : Li
       (λ (y : present parts c ≡ false). subst (TableIs big e.version (rows_of ks t)) (pass_inj (rw (input_index, y) at r)) (empty (no_rows t c d z y)))
       (known (present parts c))
     where
-      there : (rs : List Row) → rs ≡ rows_of ks t → (y : Index) → index_of big (body p parts c) ≡ pass y → some y ≡ x → TableIs big e.version (rows_of ks t) x
+      there : (rs : List Row) → rs ≡ rows_of ks t → (y : Index) → index_of big (body p parts c) ≡ Ok y → Some y ≡ x → TableIs big e.version (rows_of ks t) x
       there [] n y i s = absurd (nothing_read big y (body p parts c) (body_is c ∙ z ∙ table_empty b p a h t d (sym n)) i)
       there (w ∷ ws) n y i s =
           let own = table_indexed b p a h t d (omega (arith, ap length n)) in
           let same : written e.version (rows_of ks t) own.slots ≡ y = pass_inj (sym own.reads ∙ ap (index_of big) (sym (body_is c ∙ z)) ∙ i) in
-          subst (TableIs big e.version (rows_of ks t)) (ap some same ∙ s) (full (index_of_table a t) own)
+          subst (TableIs big e.version (rows_of ks t)) (ap Some same ∙ s) (full (index_of_table a t) own)
 
-  module _ (i : Input) (r : input_of p big word (record { word = o.word; parts = parts_from 8 (sections_of b p a) }) ≡ pass i) (own : Every (OwnRead (encoding_of a.bundle.big (first_word a.bundle.objects))) a.filing.units) where
+  module _ (i : Input) (r : input_of p big word (record { word = o.word; parts = parts_from 8 (sections_of b p a) }) ≡ Ok i) (own : Every (OwnRead (encoding_of a.bundle.big (first_word a.bundle.objects))) a.filing.units) where
     abbrev obj : Object
     obj = record { word = o.word; parts = parts }
 
@@ -246,7 +237,7 @@ module _ (b p : List ℕ) (a : Accepted b p) (h : Bytes b) (o : Object) (os : Li
         (known (present parts 12 || present parts 13))
       where
         nothing_of : unit_bytes [] 1 ≡ []
-        nothing_of = unfold unit_bytes those joined in refl
+        nothing_of = unfold unit_bytes in refl
 
         no_info : section 1 ≡ [] → ⊥
         no_info z =
@@ -269,7 +260,7 @@ module _ (b p : List ℕ) (a : Accepted b p) (h : Bytes b) (o : Object) (os : Li
     str_is = body_is 11 ∙ str_bytes a.filing a.cu a.tu
 
     six_is : body p parts 6 ≡ remapped_all e table (pieces_in a.filing.inputs)
-    unfolding shared has any shared_bytes
+    unfolding shared has shared_bytes
     six_is = body_is 6 ∙ shared_bytes_law a.filing a.cu a.tu 6 refl ∙ remapped_all_law e table a.filing.inputs (each_so (λ j g. g.encoded) facts.inputs)
 
     kept_strings : Every (Kept table) (used_in (pieces_in a.filing.inputs))

@@ -1,10 +1,6 @@
 -- Rows whose cells are written alike give the same index.
-use mathlib.Core.Path.{◌≡◌, refl, ap, ap₂, ◌∙◌}
-use mathlib.Core.Bool.{Bool}
-use mathlib.Core.List.{List, [], ◌∷◌, ◌++◌, map}
-use mathlib.Core.Option.{Option}
-use Prim.Native.Nat.{ℕ, suc}
-use lib.ListN.{length}
+use Rattle.std.proofs.Common.{◌≡◌, refl, ap, ap₂, ◌∙◌, Bool, List, [], ◌∷◌, ◌++◌, map, ℕ, suc, length}
+use Rattle.std.specs.Prelude.{Option}
 use Rattle.octets.specs.Lists.{joined, those, any}
 use Rattle.index.specs.Columns.{Column, columns_of}
 use Rattle.index.specs.Index.{Contribution}
@@ -29,7 +25,7 @@ cells_same f r s h [] = refl
 cells_same f r s h (c ∷ cs) = ap₂ (λ (x : ℕ) (xs : List ℕ). x ∷ xs) (h c.section) (cells_same f r s h cs)
 
 grid_same : (f : Option Contribution → ℕ) (cs : List Column) (rs ss : List Row) → Both (λ r s. (c : ℕ) → f (r.cells c) ≡ f (s.cells c)) rs ss → grid f cs rs ≡ grid f cs ss
-unfolding grid joined
+unfolding grid
 grid_same f cs [] (s ∷ ss) x'' = elim x'' [ ]
 grid_same f cs (r ∷ rs) [] x3 = elim x3 [ ]
 grid_same f cs [] [] none = refl

@@ -1,13 +1,7 @@
 -- The sections of both packages are the same.
-use mathlib.Core.Path.{◌≡◌, refl, sym, ap, ap₂, ◌∙◌, subst}
-use mathlib.Core.Logic.{◌⊎◌, inl, inr, ⊎_elim}
-use mathlib.Core.Bool.{Bool, true, false}
-use mathlib.Core.List.{List, [], ◌∷◌, ◌++◌, map, append-nil, append_assoc}
-use mathlib.Core.Option.{some}
-use Prim.Native.Nat.{ℕ}
-use native.Mathlib.Omega.{arith}
-use lib.Dec.{eqb}
-use borrow.Author.Tests.{eqb-true, eqb-false}
+use Rattle.std.proofs.Common.{◌≡◌, refl, sym, ap, ap₂, ◌∙◌, subst, ◌⊎◌, inl, inr, ⊎_elim, Bool, true, false, List, [], ◌∷◌, ◌++◌, map, append-nil, append_assoc, ℕ, arith, eqb, eqb-true}
+use Rattle.std.specs.Prelude.{Some}
+use borrow.Author.Tests.{eqb-false}
 use Rattle.octets.specs.Lists.{any, those, has, distinct, joined}
 use Rattle.octets.proofs.Checks.{known, or_fails_left, or_left}
 use Rattle.octets.proofs.Lists.{any_append}
@@ -58,7 +52,6 @@ module _ (home_of : ℕ → ℕ) where
   Homed u = u.home ≡ home_of u.table
 
   identities_home : (t : ℕ) (us : List Filed) → Every Homed us → identities_in t us ≡ identities_in t (of_home (home_of t) us)
-  unfolding those
   identities_home t [] e = refl
   identities_home t (u ∷ us) e = ⊎_elim
       (λ (q : eqb u.table t ≡ true).
@@ -74,7 +67,7 @@ module _ (home_of : ℕ → ℕ) where
       (known (eqb u.table t))
 
 identities_alike : (t : ℕ) (us vs : List Filed) → Both Alike us vs → identities_in t us ≡ identities_in t vs
-unfolding identities_in those
+unfolding identities_in
 identities_alike t [] (v ∷ vs) x'' = elim x'' [ ]
 identities_alike t (u ∷ us) [] x3 = elim x3 [ ]
 identities_alike t [] [] none = refl
@@ -92,7 +85,6 @@ abbrev pub Likewise : List Filed → Filed → Filed → Type 0
 Likewise ks u v = Columned (λ t c. any_has (rows_of ks t) c) u v
 
 both_home : (ks us vs : List Filed) (h : ℕ) → Both (Likewise ks) us vs → Both (Likewise ks) (of_home h us) (of_home h vs)
-unfolding those
 both_home ks [] (v ∷ vs) h x'' = elim x'' [ ]
 both_home ks (u ∷ us) [] h x3 = elim x3 [ ]
 both_home ks [] [] h none = none
@@ -109,7 +101,6 @@ both_home ks (u ∷ us) (v ∷ vs) h (more p b) = ⊎_elim
 
 -- what is alike to units of one home is of that home
 home_whole : (ks us vs : List Filed) (h : ℕ) → Both (Likewise ks) (of_home h us) vs → of_home h vs ≡ vs
-unfolding those
 home_whole ks us vs h b = go (of_home h us) vs b (each_passed (λ (u : Filed). eqb u.home h) us)
   where
     go : (xs ys : List Filed) → Both (Likewise ks) xs ys → Every (λ (u : Filed). eqb u.home h ≡ true) xs → of_home h ys ≡ ys
@@ -119,7 +110,6 @@ home_whole ks us vs h b = go (of_home h us) vs b (each_passed (λ (u : Filed). e
     go (x ∷ xs) (y ∷ ys) (more p b) e = home_keeps h y ys (sym p.alike.home ∙ eqb-true _ _ (each_head e)) ∙ ap (λ (l : List Filed). y ∷ l) (go xs ys b (each_tail e))
 
 home_other : (ks us vs : List Filed) (h g : ℕ) → (h ≡ g → ⊥) → Both (Likewise ks) (of_home h us) vs → of_home g vs ≡ []
-unfolding those
 home_other ks us vs h g n b = go (of_home h us) vs b (each_passed (λ (u : Filed). eqb u.home h) us)
   where
     go : (xs ys : List Filed) → Both (Likewise ks) xs ys → Every (λ (u : Filed). eqb u.home h ≡ true) xs → of_home g ys ≡ []
@@ -134,7 +124,7 @@ both_likes ks (u ∷ us) [] x3 = elim x3 [ ]
 both_likes ks [] [] none = none
 both_likes ks (u ∷ us) (v ∷ vs) (more p b) = more p.alike (both_likes ks us vs b)
 
-pub likewise_again : (i : Input) (ks us vs : List Filed) → Every SharedOnly us → Every (λ u. (c : ℕ) (k : Contribution) → u.contributions c ≡ some k → has (needed_codes (lengths i)) c ≡ true) us
+pub likewise_again : (i : Input) (ks us vs : List Filed) → Every SharedOnly us → Every (λ u. (c : ℕ) (k : Contribution) → u.contributions c ≡ Some k → has (needed_codes (lengths i)) c ≡ true) us
     → Both (AgainIn i ks) us vs → Both (Likewise ks) us vs
 likewise_again i ks [] (v ∷ vs) s n x6 = elim x6 [ ]
 likewise_again i ks (u ∷ us) [] s n x5 = elim x5 [ ]
@@ -267,7 +257,7 @@ table_same is i js e = ap first_uses (used_append is js ∙ ap (λ (z : List (Li
 pub shared_same : (table : List (List ℕ)) (is : List Input) (i : Input) (js : List Input) (c : ℕ)
     → (c ≡ 6 → remapped_all i.encoding table i.pieces ≡ joined (map (λ (j : Input). remapped_all j.encoding table j.pieces) is))
     → ((c ≡ 6 → ⊥) → i.bytes c ≡ joined (map (λ (j : Input). j.bytes c) is)) → shared_bytes table (is ++ js) c ≡ shared_bytes table (i ∷ js) c
-unfolding shared_bytes joined
+unfolding shared_bytes
 shared_same table is i js c six other = ⊎_elim
     (λ (t : eqb c 6 ≡ true).
     rw (shared_bytes, t) (ap joined (map-append (λ (j : Input). remapped_all j.encoding table j.pieces) is js)
@@ -288,7 +278,7 @@ pub sections_same : (big : Bool) (version : ℕ) (f g : Filing) → string_table
     → ((h : ℕ) → (h ≡ 1) ⊎ (h ≡ 2) → unit_bytes (kept f.units) h ≡ unit_bytes (kept g.units) h)
     → ((t : ℕ) → index_bytes big version (rows_of (kept f.units) t) ≡ index_bytes big version (rows_of (kept g.units) t))
     → package_sections big version f ≡ package_sections big version g
-unfolding package_sections section_list has any shared
+unfolding package_sections section_list has shared
 sections_same big version f g table parts bytes index =
     let T = string_table g.inputs in
     let s : (c : ℕ) → has shared c ≡ true → shared_bytes (string_table f.inputs) f.inputs c ≡ shared_bytes T g.inputs c = λ c h. ap (λ (t : List (List ℕ)). shared_bytes t f.inputs c) table ∙ parts c h in

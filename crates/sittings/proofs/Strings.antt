@@ -1,14 +1,9 @@
 -- Strings read back from what was written, and remapping twice.
-use mathlib.Core.Path.{◌≡◌, refl, sym, ap, ap₂, ◌∙◌}
-use mathlib.Core.Bool.{true}
-use mathlib.Core.List.{List, [], ◌∷◌, ◌++◌, map}
-use Prim.Native.Nat.{ℕ, ◌-◌, ◌/◌, ◌^◌, ◌<◌}
-use native.Mathlib.Nat.{lt_of_le_of_lt, sub-zero, mul-div_cancel_left}
-use native.Mathlib.Omega.{arith}
-use lib.ListN.{length}
+use Rattle.std.proofs.Common.{◌≡◌, refl, sym, ap, ap₂, ◌∙◌, true, List, [], ◌∷◌, ◌++◌, map, ℕ, ◌-◌, ◌/◌, ◌^◌, ◌<◌, lt_of_le_of_lt, arith, length}
+use native.Mathlib.Nat.{sub-zero, mul-div_cancel_left}
 use Rattle.octets.specs.Octets.{numbers_of}
 use Rattle.octets.specs.Lists.{joined}
-use Rattle.octets.specs.Checked.{pass}
+use Rattle.std.specs.Prelude.{Ok}
 use Rattle.octets.proofs.Checks.{bind_pass, pass_inj}
 use Rattle.octets.proofs.Joined.{map-append}
 use Rattle.octets.proofs.Tables.{numbers_of_append, numbers_in_numbers_of, length_numbers_of}
@@ -28,7 +23,7 @@ abbrev pub Kept : List (List ℕ) → List ℕ → Type 0
 Kept table s = (is_in table s ≡ true) × NoZero s
 
 -- what the new offsets name is what was used
-pub strings_back : (table used : List (List ℕ)) → Every (Kept table) used → strings_at (str_of table) (map (offset_in table) used) ≡ pass used
+pub strings_back : (table used : List (List ℕ)) → Every (Kept table) used → strings_at (str_of table) (map (offset_in table) used) ≡ Ok used
 strings_back table [] e = strings_at_none (str_of table)
 strings_back table (s ∷ ss) e =
     strings_at_cons (str_of table) (offset_in table s) (map (offset_in table) ss) s ss (string_in_str_of 9 table s (each_head e).0 (each_head e).1) (strings_back table ss (each_tail e))
@@ -36,7 +31,7 @@ strings_back table (s ∷ ss) e =
 module _ (e : Encoding) (ok : Sound e) (table : List (List ℕ)) (small : length (str_of table) < 256 ^ e.width) where
   -- a piece that was written is read as the same strings
   pub piece_back : (s : List ℕ) (used : List (List ℕ)) (p : Piece) → Whole e s → length used ≡ length (entries_in e s) → Every (Kept table) used
-      → piece_of e (str_of table) (remapped e table s used) ≡ pass p → (p.used ≡ used) × (p.bytes ≡ remapped e table s used)
+      → piece_of e (str_of table) (remapped e table s used) ≡ Ok p → (p.used ≡ used) × (p.bytes ≡ remapped e table s used)
   unfolding piece_of
   piece_back s used p w count k q =
       let os = bind_pass (entries_of e (remapped e table s used)) _ p q in
@@ -59,7 +54,7 @@ module _ (e : Encoding) (ok : Sound e) (table : List (List ℕ)) (small : length
     remapped_four table' s used = rw (header_four e four)
 
     pub pieces_four : (table' : List (List ℕ)) (ps : List Piece) → remapped_all e table' ps ≡ numbers_of e.big e.width (map (offset_in table') (used_in ps))
-    unfolding remapped_all used_in joined numbers_of
+    unfolding remapped_all used_in numbers_of
     pieces_four table' [] = refl
     pieces_four table' (p ∷ ps) =
         ap₂ (λ (x y : List ℕ). x ++ y) (remapped_four table' p.bytes p.used) (pieces_four table' ps)
@@ -67,7 +62,7 @@ module _ (e : Encoding) (ok : Sound e) (table : List (List ℕ)) (small : length
         ∙ numbers_of_append e.big e.width (map (offset_in table') p.used) (map (offset_in table') (used_in ps)))
 
     -- what a package's str_offsets is read as
-    pub whole_four : (used : List (List ℕ)) (p : Piece) → Every (Kept table) used → piece_of e (str_of table) (numbers_of e.big e.width (map (offset_in table) used)) ≡ pass p → p.used ≡ used
+    pub whole_four : (used : List (List ℕ)) (p : Piece) → Every (Kept table) used → piece_of e (str_of table) (numbers_of e.big e.width (map (offset_in table) used)) ≡ Ok p → p.used ≡ used
     unfolding piece_of entries_in
     whole_four used p k q =
         let s = numbers_of e.big e.width (map (offset_in table) used) in

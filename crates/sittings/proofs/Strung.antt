@@ -1,16 +1,8 @@
 -- The str_offsets of a package, read again: the same strings in the same order, and remapped by any table it is what its objects' would be.
-use mathlib.Core.Path.{◌≡◌, refl, sym, ap, ap₂, ◌∙◌, subst}
-use mathlib.Core.Logic.{⊎_elim}
-use mathlib.Core.Bool.{true, false}
-use mathlib.Core.List.{List, [], ◌∷◌, ◌++◌, map, append-nil, append_assoc}
-use mathlib.Core.Option.{Option, some}
-use Prim.Native.Nat.{ℕ, suc, ◌+◌, ◌^◌, ◌<◌, ◌≤◌}
-use native.Mathlib.Nat.{mul-suc}
-use native.Mathlib.Omega.{arith}
-use lib.ListN.{length, get_or, length-append}
+use Rattle.std.proofs.Common.{◌≡◌, refl, sym, ap, ap₂, ◌∙◌, subst, ⊎_elim, true, false, List, [], ◌∷◌, ◌++◌, map, append-nil, append_assoc, ℕ, suc, ◌+◌, ◌^◌, ◌<◌, ◌≤◌, mul-suc, arith, length, get_or, length-append}
+use Rattle.std.specs.Prelude.{Option, Some, Ok}
 use Rattle.octets.specs.Octets.{numbers_of}
 use Rattle.octets.specs.Lists.{joined, sum, all, any}
-use Rattle.octets.specs.Checked.{pass}
 use Rattle.octets.proofs.Checks.{bind_pass, require_pass, pass_inj, known}
 use Rattle.octets.proofs.Joined.{map-append, joined_append}
 use Rattle.octets.proofs.Tables.{length_numbers_of}
@@ -61,13 +53,13 @@ remapped_append e table ps qs =
 
 pub remapped_all_law : (e : Encoding) (table : List (List ℕ)) (is : List Input) → Every (λ i. i.encoding ≡ e) is
     → joined (map (λ (j : Input). remapped_all j.encoding table j.pieces) is) ≡ remapped_all e table (pieces_in is)
-unfolding pieces_in joined remapped_all
+unfolding pieces_in remapped_all
 remapped_all_law e table [] h = refl
 remapped_all_law e table (i ∷ is) h =
     ap₂ (λ (d : Encoding) (l : List ℕ). remapped_all d table i.pieces ++ l) (each_head h) (remapped_all_law e table is (each_tail h)) ∙ sym (remapped_append e table i.pieces (pieces_in is))
 
 pub bytes_length : (e : Encoding) (is : List Input) → Every (InputFacts e) is → length (joined (bytes_of (pieces_in is))) ≡ lengths_in is 6
-unfolding pieces_in joined lengths_in sum
+unfolding pieces_in lengths_in sum
 bytes_length e [] f = refl
 bytes_length e (i ∷ is) f =
     ap length (ap joined (map-append (λ (p : Piece). p.bytes) i.pieces (pieces_in is)) ∙ joined_append (bytes_of i.pieces) (bytes_of (pieces_in is)))
@@ -75,7 +67,7 @@ bytes_length e (i ∷ is) f =
     ∙ ap₂ (λ (a b : ℕ). a + b) (ap length (each_head f).strings.facts.joins) (bytes_length e is (each_tail f))
 
 -- ---- what is known of them
-no_zeros : (str os : List ℕ) (used : List (List ℕ)) → strings_at str os ≡ pass used → Every NoZero used
+no_zeros : (str os : List ℕ) (used : List (List ℕ)) → strings_at str os ≡ Ok used → Every NoZero used
 no_zeros str [] used q = subst (Every NoZero) (pass_inj (sym (strings_at_none str) ∙ q)) nothing
 no_zeros str (o ∷ os) used q =
     let s = strings_at_split str o os used q in
@@ -132,8 +124,8 @@ module _ (e : Encoding) (table : List (List ℕ)) where
 
 -- ---- where a piece starts
 pub starts_tile : (at : ℕ) (before : List Piece) (p : Piece) (behind : List Piece) → Every (λ q. 1 ≤ length q.bytes) before
-    → starts_at (tiles_of at (before ++ (p ∷ behind))) (at + length (joined (bytes_of before))) ≡ some (length p.bytes)
-unfolding tiles_of joined
+    → starts_at (tiles_of at (before ++ (p ∷ behind))) (at + length (joined (bytes_of before))) ≡ Some (length p.bytes)
+unfolding tiles_of
 starts_tile at [] p behind e = starts_here (record { offset = at; size = length p.bytes }) (tiles_of (at + length p.bytes) behind) (at + 0) (omega arith)
 starts_tile at (q ∷ before) p behind e =
     let n = length q.bytes in
@@ -156,7 +148,7 @@ module _ (e : Encoding) (ok : Sound e) (table : List (List ℕ)) (small : length
       mul-suc e.width (length (map (offset_in table) ss)),
     ))
 
-    used_four : (rs : List Piece) → whole_pieces e qs bytes ≡ pass rs → used_in rs ≡ used_in ps
+    used_four : (rs : List Piece) → whole_pieces e qs bytes ≡ Ok rs → used_in rs ≡ used_in ps
     unfolding whole_pieces used_in
     used_four rs q =
         let numbers : bytes 6 ≡ numbers_of e.big e.width (map (offset_in table) (used_in ps)) = six ∙ pieces_four e ok table small four table ps in
@@ -168,14 +160,14 @@ module _ (e : Encoding) (ok : Sound e) (table : List (List ℕ)) (small : length
         (λ (t : present qs 6 ≡ false). ap used_in (sym (pass_inj (rw (whole_pieces, t) at q))) ∙ sym (no_strings (used_in ps) (sym numbers ∙ absent t)))
         (known (present qs 6))
 
-    pub strung_four : (rs : List Piece) → whole_pieces e qs bytes ≡ pass rs → Restrung e ok table small ps rs
+    pub strung_four : (rs : List Piece) → whole_pieces e qs bytes ≡ Ok rs → Restrung e ok table small ps rs
     strung_four rs q =
         let u = used_four rs q in
         record { used = u; again = λ t. pieces_four e ok table small four t rs ∙ ap (λ (l : List (List ℕ)). numbers_of e.big e.width (map (offset_in t) l)) u ∙ sym (pieces_four e ok table small four t ps) }
 
   -- version 5
-  pub strung_five : Every (PieceFacts e table) ps → (cu tu : Option Index) (rs : List Piece) → tiled_pieces e bytes cu tu ≡ pass rs
-      → Every (λ c. starts_at (tiles_of 0 ps) c.offset ≡ some c.size) (named cu ++ named tu) → Restrung e ok table small ps rs
+  pub strung_five : Every (PieceFacts e table) ps → (cu tu : Option Index) (rs : List Piece) → tiled_pieces e bytes cu tu ≡ Ok rs
+      → Every (λ c. starts_at (tiles_of 0 ps) c.offset ≡ Some c.size) (named cu ++ named tu) → Restrung e ok table small ps rs
   unfolding tiled_pieces tiles
   strung_five facts cu tu rs q starts =
       let cs = named cu ++ named tu in
@@ -185,7 +177,7 @@ module _ (e : Encoding) (ok : Sound e) (table : List (List ℕ)) (small : length
       let r = require_pass (all (λ c. any (same_parts c) w.0) cs) 34 _ ts.0 w.2 in
       let walk = tiles_in cs ds (starts_in cs ds starts) (suc (length (bytes 6))) 0 (bytes 6) w.0 w.1 in
       let row : Row 0 (0 + length (bytes 6)) ds = subst (λ (n : ℕ). Row 0 (0 + n) ds) (ap length (sym six)) (tiles_of_law e ok table small 0 ps facts) in
-      let own : tiles_from (suc (length (bytes 6))) ds 0 (bytes 6) ≡ pass ds = tiles_row [] (suc (length (bytes 6))) 0 (bytes 6) ds row nothing (omega arith) in
+      let own : tiles_from (suc (length (bytes 6))) ds 0 (bytes 6) ≡ Ok ds = tiles_row [] (suc (length (bytes 6))) 0 (bytes 6) ds row nothing (omega arith) in
       let same : ts.0 ≡ ds = sym (pass_inj r.1) ∙ pass_inj (sym walk ∙ own) in
       pieces_back e ok table small [] ps rs facts
       ((λ i. pieces_of e (sym str i) (sym six i) (sym same i)) ∙ ts.2)

@@ -1,14 +1,7 @@
 -- Packing in two sittings.
-use mathlib.Core.Path.{◌≡◌, refl, sym, ap, ap₂, ◌∙◌}
-use mathlib.Core.Bool.{Bool, true, ◌&&◌}
-use mathlib.Core.List.{List, [], ◌∷◌, ◌++◌, map}
-use Prim.Native.Nat.{ℕ, ◌*◌, ◌/◌, ◌%◌, ◌≤◌, ◌<◌}
-use native.Mathlib.Omega.{arith}
-use lib.Dec.{eqb, leb}
-use lib.ListN.{length}
-use borrow.Author.Tests.{le-leb, eq-eqb}
+use Rattle.std.proofs.Common.{◌≡◌, refl, sym, ap, ap₂, ◌∙◌, Bool, true, ◌&&◌, List, [], ◌∷◌, ◌++◌, map, ℕ, ◌*◌, ◌/◌, ◌%◌, ◌≤◌, ◌<◌, arith, eqb, leb, length, le-leb, eq-eqb}
 use Rattle.numbers.specs.Limits.{bundle_limit, work_for_word}
-use Rattle.octets.specs.Checked.{Check, pass}
+use Rattle.std.specs.Prelude.{Result, Ok}
 use Rattle.octets.proofs.Checks.{pass_inj, and_both}
 use Rattle.octets.proofs.Numbers.{Bytes}
 use Rattle.bundle.specs.Bundle.{Item, object, section, Object, Bundle, filled_up, bundle_of, length_good}
@@ -53,7 +46,7 @@ spans [] = refl
 spans (object w ∷ is) = omega (arith, spans is)
 spans (section p ∷ is) = omega (arith, spans is)
 
-length_good_law : (b : List ℕ) (k : Bundle) → bundle_of b ≡ pass k → length b ≤ bundle_limit → length_good bundle_limit b ≡ true
+length_good_law : (b : List ℕ) (k : Bundle) → bundle_of b ≡ Ok k → length b ≤ bundle_limit → length_good bundle_limit b ≡ true
 unfolding length_good
 length_good_law b k q l =
     let r = readable b k q in
@@ -99,11 +92,11 @@ module _ (first second together p q : List ℕ) (a : Accepted first p) (a₂ : A
   unfolding object_in first_word
   x_word = ap (λ (s : Sections). s.word) packaged ∙ sym (ap first_word objects)
 
-  filed : filing_from first big word (λ c. 0) [] a.bundle.objects ≡ pass a.filing
+  filed : filing_from first big word (λ c. 0) [] a.bundle.objects ≡ Ok a.filing
   unfolding filing_of
   filed = a.filed
 
-  refiled : filing_from second big word (λ c. 0) [] (x ∷ qs) ≡ pass a₂.filing
+  refiled : filing_from second big word (λ c. 0) [] (x ∷ qs) ≡ Ok a₂.filing
   unfolding filing_of first_word
   refiled =
       ap₂ (λ (t : Bool) (n : ℕ). filing_from second t n (λ c. 0) [] (x ∷ qs)) (sym big₂) (sym x_word)
@@ -112,9 +105,9 @@ module _ (first second together p q : List ℕ) (a : Accepted first p) (a₂ : A
   own : Every (OwnRead (encoding_of a.bundle.big (first_word a.bundle.objects))) a.filing.units
   own = filed_each first big word (λ y i bases earlier u r w. own_read first big word y i bases earlier u r w) (λ c. 0) [] a.bundle.objects a.filing filed
 
-  module _ (k : Bundle) (front back : List Object) (r : bundle_of together ≡ pass k) (big₃ : k.big ≡ a.bundle.big) (objects₃ : k.objects ≡ front ++ back)
+  module _ (k : Bundle) (front back : List Object) (r : bundle_of together ≡ Ok k) (big₃ : k.big ≡ a.bundle.big) (objects₃ : k.objects ≡ front ++ back)
       (same : map (object_in together) front ≡ map (object_in first) a.bundle.objects) (same_more : map (object_in together) back ≡ map (object_in second) qs) where
-    pub judged_together : (w₂ w : ℕ) → judged second w₂ ≡ pass q → length together ≤ bundle_limit → work_for_word * (length together / 4) ≤ w → judged together w ≡ pass q
+    pub judged_together : (w₂ w : ℕ) → judged second w₂ ≡ Ok q → length together ≤ bundle_limit → work_for_word * (length together / 4) ≤ w → judged together w ≡ Ok q
     judged_together w₂ w j l work =
         let f = first_same together first a.bundle.objects front back o os objects same in
         together_judged (home_by e) (either_home e) first second together big word a.bundle.objects front qs back x same same_more a.filing filed a₂.filing refiled
@@ -155,7 +148,7 @@ two_sittings big os whole further first second together p q w o none-not one hel
     let t = map_split (object_in together) held₃.bundle.objects os further held₃.objects in
     let j = judged_together first second together p q a a₂ one.are_bytes two.are_bytes n.0 n.1 n.2 (order₂ ∙ sym order) x.0 x.1 x.2 x.3 held₃.bundle t.0 t.1 held₃.read
     (held₃.order ∙ sym order) t.2 (t.3 ∙ sym are) (t.4 ∙ sym x.4) two.work w (made_judged (judged second two.work) two.output q two.accepted).0 l work in
-    ap (λ (c : Check (List ℕ)). answered c o) j ∙ rw (answered, le-leb (length q) o room)
+    ap (λ (c : Result (List ℕ) ℕ). answered c o) j ∙ rw (answered, le-leb (length q) o room)
 
 -- there are such bundles: what is written of objects holds them
 pub written_holds : (big : Bool) (os : List Sections) → Every Storables os → length (written big os) < 0x4000_0000 → Holds (written big os) big os

@@ -1,8 +1,7 @@
 -- Packing in two sittings: a bundle is packed, and its package's object, with further objects behind it, is packed again.
-use Rattle.std.specs.Prelude.{◌≡◌, Bool, List, [], ◌++◌, map, ℕ, ◌*◌, ◌/◌, ◌≤◌, ◌<◌, length, slice_index}
+use Rattle.std.specs.Prelude.{◌≡◌, Bool, List, [], ◌++◌, map, ℕ, ◌*◌, ◌/◌, ◌≤◌, ◌<◌, length, slice_index, Ok}
 use Rattle.numbers.specs.Limits.{bundle_limit, work_for_word}
 use Rattle.octets.specs.Octets.{part}
-use Rattle.octets.specs.Checked.{pass}
 use Rattle.bundle.specs.Bundle.{Part, Object, Bundle, bundle_of}
 use Rattle.bundle.specs.Written.{Section, Sections}
 use Rattle.package.specs.Pack.{packed, made}
@@ -18,7 +17,7 @@ object_in b o = record { word = o.word; sections = map (section_in b) o.parts }
 -- the bundle has this byte order and holds these objects, and no others
 pub record Holds (b : List ℕ) (big : Bool) (os : List Sections) : Type 0 where
   pub bundle : Bundle
-  pub read : bundle_of b ≡ pass bundle
+  pub read : bundle_of b ≡ Ok bundle
   pub order : bundle.big ≡ big
   pub objects : map (object_in b) bundle.objects ≡ os
 

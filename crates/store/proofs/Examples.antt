@@ -1,10 +1,6 @@
 -- Bundles filed, and written, as the checker computes them.
-use mathlib.Core.Path.{◌≡◌, refl}
-use mathlib.Core.Bool.{true, false}
-use mathlib.Core.List.{List, [], ◌∷◌, ◌++◌}
-use mathlib.Core.Option.{some}
-use Prim.Native.Nat.{ℕ, ◌+◌, ◌*◌}
-use lib.ListN.{length}
+use Rattle.std.proofs.Common.{◌≡◌, refl, true, false, List, [], ◌∷◌, ◌++◌, ℕ, ◌+◌, ◌*◌, length}
+use Rattle.std.specs.Prelude.{Some, Ok, Err}
 use Rattle.octets.specs.Checked
 use Rattle.octets.specs.Lists
 use Rattle.octets.specs.Octets
@@ -32,7 +28,7 @@ use Rattle.package.specs.Pack
 use Rattle.store.specs.Stored
 use Rattle.store.specs.Finished
 use Rattle.octets.specs.Octets.{numbers_of}
-use Rattle.octets.specs.Checked.{pass, refuse, mapped}
+use Rattle.octets.specs.Checked.{mapped}
 use Rattle.index.specs.Index.{Contribution}
 use Rattle.package.specs.Pack.{Answer, refused, short, made}
 use Rattle.package.proofs.Examples.{one, four, five, unit, abbreviations, table, typed, two_parts}
@@ -57,12 +53,12 @@ single = one five (unit 5 1 ++ abbreviations)
 abbrev OneUnit : Type 0
 OneUnit =
     (filed_bundle single
-    ≡ pass
+    ≡ Ok
     (record {
       units = record { table = 1; identity = 1; home = 1; start = 12; size = 20; cells = of 0 20 ∷ of 0 1 ∷ nothing ∷ nothing ∷ nothing ∷ nothing ∷ nothing ∷ [] } ∷ [];
       cu_columns = true ∷ true ∷ false ∷ false ∷ false ∷ false ∷ false ∷ [];
       tu_columns = false ∷ false ∷ false ∷ false ∷ false ∷ false ∷ false ∷ [];
-      used = some [];
+      used = Some [];
       bases = 0 ∷ 20 ∷ 0 ∷ 1 ∷ 0 ∷ 0 ∷ 0 ∷ 0 ∷ 0 ∷ 0 ∷ 0 ∷ 0 ∷ 0 ∷ 0 ∷ [];
       info = 20;
       types = 0;
@@ -76,11 +72,11 @@ OneUnit =
 abbrev Refusals : Type 0
 Refusals =
     -- 5: another object word; 11: a unit of version 4 in an object of version 5; 14: a compilation identity twice; 14 in a second section
-    (filed_bundle (one five (unit 5 1 ++ abbreviations ++ (four ∷ []))) ≡ refuse 5)
-    × (filed_bundle (one five ((0x2080_0014 ∷ 0x10 ∷ 0x805_0004 ∷ 0 ∷ 1 ∷ 0 ∷ []) ++ abbreviations)) ≡ refuse 11)
-    × (filed_bundle (one five (unit 5 1 ++ unit 4 1 ++ abbreviations)) ≡ refuse 14)
+    (filed_bundle (one five (unit 5 1 ++ abbreviations ++ (four ∷ []))) ≡ Err 5)
+    × (filed_bundle (one five ((0x2080_0014 ∷ 0x10 ∷ 0x805_0004 ∷ 0 ∷ 1 ∷ 0 ∷ []) ++ abbreviations)) ≡ Err 11)
+    × (filed_bundle (one five (unit 5 1 ++ unit 4 1 ++ abbreviations)) ≡ Err 14)
     -- 34: two different parts overlap
-    × (filed_bundle (two_parts 2 0 0x62_0061 0 8 16) ≡ refuse 34)
+    × (filed_bundle (two_parts 2 0 0x62_0061 0 8 16) ≡ Err 34)
 
 -- ---- two objects
 abbrev two : List ℕ → List ℕ → List ℕ
@@ -98,7 +94,7 @@ namesake = 0x2100_0017 ∷ 0x13 ∷ 4 ∷ 0x708_0000 ∷ 0 ∷ 0 ∷ 0x1_0000 �
 abbrev Skipped : ℕ → ℕ → List ℕ → Type 0
 Skipped repeats namesakes second =
     filed_bundle (two (rooted_as 1 ++ typed ++ table) (rooted_as 2 ++ second ++ table))
-    ≡ pass
+    ≡ Ok
     (record {
       units = record { table = 1; identity = 1; home = 1; start = 12; size = 20; cells = of 0 20 ∷ nothing ∷ of 0 9 ∷ nothing ∷ nothing ∷ nothing ∷ nothing ∷ nothing ∷ [] }
           ∷ record { table = 2; identity = 7; home = 2; start = 36; size = 23; cells = nothing ∷ of 0 23 ∷ of 0 9 ∷ nothing ∷ nothing ∷ nothing ∷ nothing ∷ nothing ∷ [] }
@@ -106,7 +102,7 @@ Skipped repeats namesakes second =
           ∷ [];
       cu_columns = true ∷ false ∷ true ∷ false ∷ false ∷ false ∷ false ∷ false ∷ [];
       tu_columns = false ∷ true ∷ true ∷ false ∷ false ∷ false ∷ false ∷ false ∷ [];
-      used = some [];
+      used = Some [];
       bases = 0 ∷ 40 ∷ 46 ∷ 18 ∷ 0 ∷ 0 ∷ 0 ∷ 0 ∷ 0 ∷ 0 ∷ 0 ∷ 0 ∷ 0 ∷ 0 ∷ [];
       info = 40;
       types = 23;
@@ -119,21 +115,21 @@ TwoObjects =
     Skipped 1 0 typed
     × Skipped 0 1 namesake
     -- a compilation unit and a type unit of one identity are both kept
-    × (mapped (λ (s : Stored). length s.units) (filed_bundle (one four (rooted_as 7 ++ typed ++ table))) ≡ pass 2)
+    × (mapped (λ (s : Stored). length s.units) (filed_bundle (one four (rooted_as 7 ++ typed ++ table))) ≡ Ok 2)
 
 -- ---- a package as input
 -- two units, each with a part of str_offsets; the strings in order of the parts
 abbrev Packages : Type 0
 Packages =
     (filed_bundle (two_parts 2 0 0x62_0061 12 0 12)
-    ≡ pass
+    ≡ Ok
     (record {
       units = record { table = 1; identity = 1; home = 1; start = 12; size = 20; cells = of 0 20 ∷ of 0 1 ∷ nothing ∷ nothing ∷ nothing ∷ of 12 12 ∷ nothing ∷ [] }
           ∷ record { table = 1; identity = 2; home = 1; start = 32; size = 20; cells = of 20 20 ∷ of 0 1 ∷ nothing ∷ nothing ∷ nothing ∷ of 0 12 ∷ nothing ∷ [] }
           ∷ [];
       cu_columns = true ∷ true ∷ false ∷ false ∷ false ∷ true ∷ false ∷ [];
       tu_columns = false ∷ false ∷ false ∷ false ∷ false ∷ false ∷ false ∷ [];
-      used = some ((0x62 ∷ []) ∷ (0x61 ∷ []) ∷ []);
+      used = Some ((0x62 ∷ []) ∷ (0x61 ∷ []) ∷ []);
       bases = 0 ∷ 40 ∷ 0 ∷ 1 ∷ 0 ∷ 0 ∷ 24 ∷ 0 ∷ 0 ∷ 0 ∷ 0 ∷ 4 ∷ 124 ∷ 0 ∷ [];
       info = 40;
       types = 0;
@@ -146,5 +142,5 @@ abbrev pub Examples : Type 0
 Examples = OneUnit × Refusals × TwoObjects × Packages
 
 pub examples : Examples
-unfolding Checked.mapped Checked.◌>>=◌ Checked.require Lists.joined Lists.those Lists.all Lists.any Lists.same Lists.has Lists.distinct Lists.zero_together Octets.part Octets.little Octets.big_from Octets.number Octets.number_at Octets.numbers_in Octets.little_of Octets.big_of Octets.bytes_of Octets.numbers_of Octets.zeros Bundle.filled_up Bundle.object_step Bundle.section_step Bundle.end_step Bundle.step_of Bundle.step_at Bundle.followed Bundle.items_from Bundle.items Bundle.leading Bundle.objects_of Bundle.object_first Bundle.bundle_of Bundle.length_good Bundle.parts_of Bundle.count Bundle.first_part Bundle.body Encoding.encoding_of Encoding.encoding_good BundleWritten.word_bytes BundleWritten.head_bytes BundleWritten.section_bytes BundleWritten.object_bytes BundleWritten.end_bytes BundleWritten.written Leb128.groups Leb128.short Leb128.unsigned Leb128.signed_size Abbreviations.attribute_at Abbreviations.attributes_then Abbreviations.attributes_from Abbreviations.attributes_of Abbreviations.declaration_at Abbreviations.declarations_then Abbreviations.declarations_from Abbreviations.declarations_of Abbreviations.declaration_of Forms.forms Forms.width_in Forms.zero_ended Forms.value_size Root.needed Root.plain_value Root.value_of Root.identity_at Root.identity_in Root.root_tag Root.root_identity InitialLength.marked InitialLength.length_field InitialLength.length_stated UnitRead.length_good UnitRead.unit_size UnitRead.is_five UnitRead.address_place UnitRead.common_size UnitRead.behind_common UnitRead.identity_five UnitRead.identity_four UnitRead.identity_of UnitRead.unit_by Strings.header_size Strings.header_true Strings.entries_in Strings.entries_of Strings.up_to_zero Strings.string_at Strings.strings_at Strings.put Strings.put_all Strings.first_uses Strings.ended Strings.str_of Strings.offset_in Strings.remapped Columns.columns_four Columns.columns_five Columns.columns_of Columns.column_in Index.version_of Index.columns_most Index.code_good Index.power_from Index.least_power Index.slots_good Index.layout Index.index_of Index.place_of Index.cell_at Index.cell_of Probing.first_slot Probing.stride Probing.look Probing.search Probing.probe Probing.slots_for Probing.free_from Probing.place Probing.place_all Probing.unused Probing.slots_of Rows.shared Rows.needed_codes Rows.is_some Rows.row_of Rows.cell_is Rows.own_place Rows.part_good Rows.row_contributions Rows.row_numbers Rows.naming Rows.the_one Rows.abbrev_part Rows.whole_contributions IndexWritten.present_columns IndexWritten.offset_of IndexWritten.size_of IndexWritten.grid IndexWritten.start_bytes IndexWritten.index_with IndexWritten.index_bytes Filing.is_under Filing.index_for Filing.lengths Filing.index_by_place Filing.abbreviations_for Filing.contributions_of Filing.skipped Filing.unit_at Filing.units_from Filing.units_in Filing.grown Filing.filing_from Filing.first_word Filing.filing_of Filing.keep Filing.keep_all Filing.kept Input.present Input.repeated Input.wrong_codes Input.only_once Input.edition_good Input.complete Input.beside_info Input.form_of Input.input_index Input.whole_pieces Input.is_packed Input.tiled_pieces Input.unit_sections Input.opened_whole Input.opened_tiled Input.opened Input.input_of Pieces.piece_of Pieces.pieces_of Pieces.used_in Pieces.remapped_all Tiles.not_empty Tiles.named_in Tiles.named_by Tiles.named Tiles.same_parts Tiles.starts_at Tiles.tiles_from Tiles.tiles Filing.is_package Pack.cells Pack.longer Pack.entries_from Pack.rows_of Pack.unit_bytes Pack.shared_bytes Pack.all_used Pack.string_table Pack.section_list Pack.non_empty Pack.package_sections Pack.package_objects Answers.answered Stored.codes Stored.nothing_stored Stored.section_bytes Stored.read_unit Stored.kept_bytes Stored.kept_under Stored.skipped_unit Stored.bytes_before Stored.moved Stored.stated Stored.cells_by Stored.marked_from Stored.marked Stored.with_unit Stored.new_unit Stored.filed_read Stored.filed_unit Stored.filed_from Stored.filed_rest Stored.filed_section Stored.unit_parts Stored.filed_sections Stored.if_short Stored.with_strings Stored.with_object Stored.filed_object Stored.filed_objects Stored.version_of Stored.filed_bundle Finished.units_joined Finished.cell_from Finished.columns_in Finished.row_in Finished.rows_in Finished.index_in Finished.inputs_of Finished.sections_in Finished.short_strings Finished.package_of Finished.packed_by_filing Filing.of_kind
+unfolding Checked.mapped Checked.◌>>=◌ Checked.require Lists.same Lists.has Lists.distinct Lists.zero_together Octets.part Octets.little Octets.big_from Octets.number Octets.number_at Octets.numbers_in Octets.little_of Octets.big_of Octets.bytes_of Octets.numbers_of Octets.zeros Bundle.filled_up Bundle.object_step Bundle.section_step Bundle.end_step Bundle.step_of Bundle.step_at Bundle.followed Bundle.items_from Bundle.items Bundle.leading Bundle.objects_of Bundle.object_first Bundle.bundle_of Bundle.length_good Bundle.parts_of Bundle.count Bundle.first_part Bundle.body Encoding.encoding_of Encoding.encoding_good BundleWritten.word_bytes BundleWritten.head_bytes BundleWritten.section_bytes BundleWritten.object_bytes BundleWritten.end_bytes BundleWritten.written Leb128.groups Leb128.short Leb128.unsigned Leb128.signed_size Abbreviations.attribute_at Abbreviations.attributes_then Abbreviations.attributes_from Abbreviations.attributes_of Abbreviations.declaration_at Abbreviations.declarations_then Abbreviations.declarations_from Abbreviations.declarations_of Abbreviations.declaration_of Forms.forms Forms.width_in Forms.zero_ended Forms.value_size Root.needed Root.plain_value Root.value_of Root.identity_at Root.identity_in Root.root_tag Root.root_identity InitialLength.marked InitialLength.length_field InitialLength.length_stated UnitRead.length_good UnitRead.unit_size UnitRead.is_five UnitRead.address_place UnitRead.common_size UnitRead.behind_common UnitRead.identity_five UnitRead.identity_four UnitRead.identity_of UnitRead.unit_by Strings.header_size Strings.header_true Strings.entries_in Strings.entries_of Strings.up_to_zero Strings.string_at Strings.strings_at Strings.put Strings.put_all Strings.first_uses Strings.ended Strings.str_of Strings.offset_in Strings.remapped Columns.columns_four Columns.columns_five Columns.columns_of Columns.column_in Index.version_of Index.columns_most Index.code_good Index.power_from Index.least_power Index.slots_good Index.layout Index.index_of Index.place_of Index.cell_at Index.cell_of Probing.first_slot Probing.stride Probing.look Probing.search Probing.probe Probing.slots_for Probing.free_from Probing.place Probing.place_all Probing.unused Probing.slots_of Rows.shared Rows.needed_codes Rows.is_some Rows.row_of Rows.cell_is Rows.own_place Rows.part_good Rows.row_contributions Rows.row_numbers Rows.naming Rows.the_one Rows.abbrev_part Rows.whole_contributions IndexWritten.present_columns IndexWritten.offset_of IndexWritten.size_of IndexWritten.grid IndexWritten.start_bytes IndexWritten.index_with IndexWritten.index_bytes Filing.is_under Filing.index_for Filing.lengths Filing.index_by_place Filing.abbreviations_for Filing.contributions_of Filing.skipped Filing.unit_at Filing.units_from Filing.units_in Filing.grown Filing.filing_from Filing.first_word Filing.filing_of Filing.keep Filing.keep_all Filing.kept Input.present Input.repeated Input.wrong_codes Input.only_once Input.edition_good Input.complete Input.beside_info Input.form_of Input.input_index Input.whole_pieces Input.is_packed Input.tiled_pieces Input.unit_sections Input.opened_whole Input.opened_tiled Input.opened Input.input_of Pieces.piece_of Pieces.pieces_of Pieces.used_in Pieces.remapped_all Tiles.not_empty Tiles.named_in Tiles.named_by Tiles.named Tiles.same_parts Tiles.starts_at Tiles.tiles_from Tiles.tiles Filing.is_package Pack.cells Pack.longer Pack.entries_from Pack.rows_of Pack.unit_bytes Pack.shared_bytes Pack.all_used Pack.string_table Pack.section_list Pack.non_empty Pack.package_sections Pack.package_objects Answers.answered Stored.codes Stored.nothing_stored Stored.section_bytes Stored.read_unit Stored.kept_bytes Stored.kept_under Stored.skipped_unit Stored.bytes_before Stored.moved Stored.stated Stored.cells_by Stored.marked_from Stored.marked Stored.with_unit Stored.new_unit Stored.filed_read Stored.filed_unit Stored.filed_from Stored.filed_rest Stored.filed_section Stored.unit_parts Stored.filed_sections Stored.if_short Stored.with_strings Stored.with_object Stored.filed_object Stored.filed_objects Stored.version_of Stored.filed_bundle Finished.units_joined Finished.cell_from Finished.columns_in Finished.row_in Finished.rows_in Finished.index_in Finished.inputs_of Finished.sections_in Finished.short_strings Finished.package_of Finished.packed_by_filing Filing.of_kind
 examples = ((refl, refl, refl), (refl, refl, refl, refl), (refl, refl, refl), (refl, refl))

@@ -1,13 +1,7 @@
 -- What is filed holds the units that the definitions of package have filed: of each kept unit what is needed of it, and the sums.
-use mathlib.Core.Path.{◌≡◌, refl, sym, ap, ap₂, ◌∙◌, subst}
-use mathlib.Core.Logic.{⊎_elim}
-use mathlib.Core.Bool.{true, false, ◌&&◌}
-use mathlib.Core.List.{List, [], ◌∷◌, ◌++◌, map}
-use mathlib.Core.Option.{Option, some, none}
-use Prim.Native.Nat.{ℕ}
-use lib.Dec.{eqb}
-use lib.ListN.{length}
-use borrow.Author.Tests.{eqb-true, eqb-false}
+use Rattle.std.proofs.Common.{◌≡◌, refl, sym, ap, ap₂, ◌∙◌, subst, ⊎_elim, true, false, ◌&&◌, List, [], ◌∷◌, ◌++◌, map, ℕ, eqb, length, eqb-true}
+use Rattle.std.specs.Prelude.{Option, Some, None}
+use borrow.Author.Tests.{eqb-false}
 use Rattle.octets.specs.Lists.{any, those, joined}
 use Rattle.octets.proofs.Checks.{known}
 use Rattle.octets.proofs.Lists.{those_keeps, those_skips}
@@ -46,7 +40,7 @@ module _ (b : List ℕ) (version : ℕ) where
   -- their bytes
   pub bytes_are : (before : BySection ℕ) (ks : List KeptUnit) (us : List Filed) (home : ℕ) → UnitsAre b version before ks us
       → joined (map (kept_bytes b) (those (λ k. eqb k.home home) ks)) ≡ unit_bytes us home
-  unfolding UnitsAre unit_bytes those joined
+  unfolding UnitsAre unit_bytes
   bytes_are before [] [] home a = refl
   bytes_are before [] (u ∷ us) home a = absurd a
   bytes_are before (k ∷ ks) [] home a = absurd a
@@ -67,7 +61,7 @@ module _ (b : List ℕ) (version : ℕ) where
   -- their rows
   pub rows_are : (before : BySection ℕ) (ks : List KeptUnit) (us : List Filed) (table : ℕ) → UnitsAre b version before ks us
       → RowsAre version (those (λ k. eqb k.table table) ks) (rows_from before us table)
-  unfolding UnitsAre RowsAre rows_from entries_from those row_at
+  unfolding UnitsAre RowsAre rows_from entries_from row_at
   rows_are before [] [] table a = tt
   rows_are before [] (u ∷ us) table a = absurd a
   rows_are before (k ∷ ks) [] table a = absurd a
@@ -87,7 +81,7 @@ module _ (b : List ℕ) (version : ℕ) where
           (known (eqb k.table table))
 
 -- ---- the kept unit of a table and an identity
-kept_here : (t x : ℕ) (k : KeptUnit) (ks : List KeptUnit) → (eqb k.table t && eqb k.identity x) ≡ true → kept_under t x (k ∷ ks) ≡ some k
+kept_here : (t x : ℕ) (k : KeptUnit) (ks : List KeptUnit) → (eqb k.table t && eqb k.identity x) ≡ true → kept_under t x (k ∷ ks) ≡ Some k
 unfolding kept_under
 kept_here t x k ks e = rw (kept_under, e)
 
@@ -96,10 +90,10 @@ unfolding kept_under
 kept_later t x k ks e = rw (kept_under, e)
 
 unfoldable FoundAre : List ℕ → Option KeptUnit → Option Filed → Type 0
-FoundAre b (some k) (some u) = kept_bytes b k ≡ u.bytes
-FoundAre b (some k) none = ⊥
-FoundAre b none (some u) = ⊥
-FoundAre b none none = Unit {0}
+FoundAre b (Some k) (Some u) = kept_bytes b k ≡ u.bytes
+FoundAre b (Some k) None = ⊥
+FoundAre b None (Some u) = ⊥
+FoundAre b None None = Unit {0}
 
 module _ (b : List ℕ) (version t x : ℕ) where
   found_more : (k : KeptUnit) (ks : List KeptUnit) (u : Filed) (us : List Filed) (at : ℕ) → UnitIs b version at k u → FoundAre b (kept_under t x ks) (first_under t x us)
@@ -124,7 +118,7 @@ module _ (b : List ℕ) (version t x : ℕ) where
   pub record Seen (ks : List KeptUnit) (us : List Filed) : Type 0 where
     pub unit : KeptUnit
     pub first : Filed
-    pub is : kept_under t x ks ≡ some unit
+    pub is : kept_under t x ks ≡ Some unit
     pub stands : First t x (kept us) first
     pub bytes : kept_bytes b unit ≡ first.bytes
 
@@ -134,18 +128,18 @@ module _ (b : List ℕ) (version t x : ℕ) where
       let f = first_stands t x (kept us) (any_kept t x us ∙ h) in
       go (kept_under t x ks) f.0 refl f.1 (subst (FoundAre b (kept_under t x ks)) (first_is t x (kept us) f.0 f.1) (found_are before ks (kept us) a))
     where
-      go : (o : Option KeptUnit) (u : Filed) → kept_under t x ks ≡ o → First t x (kept us) u → FoundAre b o (some u) → Seen ks us
-      go (some k) u e f r = record { unit = k; first = u; is = e; stands = f; bytes = r }
-      go none u e f r = absurd r
+      go : (o : Option KeptUnit) (u : Filed) → kept_under t x ks ≡ o → First t x (kept us) u → FoundAre b o (Some u) → Seen ks us
+      go (Some k) u e f r = record { unit = k; first = u; is = e; stands = f; bytes = r }
+      go None u e f r = absurd r
 
-  pub unseen : (before : BySection ℕ) (ks : List KeptUnit) (us : List Filed) → UnitsAre b version before ks (kept us) → any (is_under t x) us ≡ false → kept_under t x ks ≡ none
+  pub unseen : (before : BySection ℕ) (ks : List KeptUnit) (us : List Filed) → UnitsAre b version before ks (kept us) → any (is_under t x) us ≡ false → kept_under t x ks ≡ None
   unfolding FoundAre
   unseen before ks us a h =
       go (kept_under t x ks) refl (subst (FoundAre b (kept_under t x ks)) (first_none t x (kept us) (any_kept t x us ∙ h)) (found_are before ks (kept us) a))
     where
-      go : (o : Option KeptUnit) → kept_under t x ks ≡ o → FoundAre b o none → kept_under t x ks ≡ none
-      go (some k) e r = absurd r
-      go none e r = e
+      go : (o : Option KeptUnit) → kept_under t x ks ≡ o → FoundAre b o None → kept_under t x ks ≡ None
+      go (Some k) e r = absurd r
+      go None e r = e
 
 -- ---- all of it
 -- the units us are filed of the bundle b, and objects whose strings are used; the next object's sections begin at bases
@@ -161,7 +155,7 @@ pub record Holds (b : List ℕ) (version : ℕ) (bases : BySection ℕ) (used : 
   pub namesakes : s.namesakes ≡ count_of namesake us
 
 pub holds_none : (b : List ℕ) (version : ℕ) → Holds b version (λ c. 0) [] [] (nothing_stored version)
-unfolding nothing_stored UnitsAre kept keep_all rows_from entries_from those unit_bytes joined if_short first_uses put_all str_of count_of count_from
+unfolding nothing_stored UnitsAre kept keep_all rows_from entries_from unit_bytes if_short first_uses put_all str_of count_of count_from
 holds_none b version = record {
   units = tt;
   cu = marks_none version;

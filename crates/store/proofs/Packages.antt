@@ -1,16 +1,9 @@
 -- The package written of what is filed is the package of the definitions, and so is its refusal.
-use mathlib.Core.Path.{◌≡◌, refl, sym, ap, ◌∙◌, subst}
-use mathlib.Core.Logic.{⊎_elim}
-use mathlib.Core.Bool.{Bool, true, false}
-use mathlib.Core.List.{List, [], ◌∷◌, ◌++◌, map}
-use Prim.Native.Nat.{ℕ, ◌*◌, ◌/◌, ◌%◌}
-use native.Mathlib.Omega.{arith}
-use lib.Dec.{eqb, leb}
-use lib.ListN.{length, take, drop}
-use borrow.Author.Tests.{leb-false, le-leb}
+use Rattle.std.proofs.Common.{◌≡◌, refl, sym, ap, ◌∙◌, subst, ⊎_elim, Bool, true, false, List, [], ◌∷◌, ◌++◌, map, ℕ, ◌*◌, ◌/◌, ◌%◌, arith, eqb, leb, length, take, drop, leb-false, le-leb}
 use Rattle.numbers.specs.Limits.{section_limit, bundle_limit, work_for_word}
 use Rattle.octets.specs.Lists.{those, all}
-use Rattle.octets.specs.Checked.{Check, pass, ◌>>=◌, require}
+use Rattle.std.specs.Prelude.{Result, Ok}
+use Rattle.octets.specs.Checked.{◌>>=◌, require}
 use Rattle.octets.proofs.Checks.{known, bind_pass, bind_same, pass_inj, then_pass, then_refuse, fails}
 use Rattle.octets.proofs.Lists.{all_stops, all_cons, those_keeps, those_skips}
 use Rattle.answers.specs.Answers.{answered}
@@ -19,7 +12,7 @@ use Rattle.bundle.specs.Written.{Section, written}
 use Rattle.strings.specs.Strings.{first_uses, str_of}
 use Rattle.index.specs.Rows.{BySection}
 use Rattle.index.specs.Written.{index_bytes}
-use Rattle.package.specs.Input.{input_of}
+use Rattle.package.specs.Input.{Input, input_of}
 use Rattle.package.specs.Filing.{Filed, Filing, grown, units_in, filing_from, first_word, filing_of, kept}
 use Rattle.package.specs.Pack.{rows_of, unit_bytes, all_used, string_table, section_list, non_empty, package_sections, package_objects, judged, packed, handed_in}
 use Rattle.package.proofs.Rows.{nothing_before, rows_from, rows_are}
@@ -32,11 +25,11 @@ use Rattle.store.proofs.Holding.{bytes_are, rows_are as kept_rows, Holds}
 use Rattle.store.proofs.Walks.{short_is, short_not, Ends, bundle_step}
 
 -- ---- objects that passed are read again
-passed_inputs : (f g : Filing) → pass f ≡ pass g → pass f.inputs ≡ pass g.inputs
-passed_inputs f g e = ap (λ (h : Filing). pass h.inputs) (pass_inj e)
+passed_inputs : (f g : Filing) → ◌≡◌ {A = Result Filing ℕ} (Ok f) (Ok g) → ◌≡◌ {A = Result (List Input) ℕ} (Ok f.inputs) (Ok g.inputs)
+passed_inputs f g e = ap (λ (h : Filing). Ok h.inputs) (pass_inj e)
 
-inputs_again : (b : List ℕ) (k : Bundle) (bases : BySection ℕ) (us : List Filed) (os : List Object) (f : Filing) → filing_from b k.big (first_word k.objects) bases us os ≡ pass f
-    → inputs_of b k os ≡ pass f.inputs
+inputs_again : (b : List ℕ) (k : Bundle) (bases : BySection ℕ) (us : List Filed) (os : List Object) (f : Filing) → filing_from b k.big (first_word k.objects) bases us os ≡ Ok f
+    → inputs_of b k os ≡ Ok f.inputs
 unfolding filing_from inputs_of
 inputs_again b k bases us [] f q = passed_inputs (record { inputs = []; units = [] }) f q
 inputs_again b k bases us (o ∷ os) f q =
@@ -93,8 +86,8 @@ module _ (b : List ℕ) (k : Bundle) (f : Filing) (s : Stored) (bases : BySectio
   sections_are = rw (units_are 1, units_are 2, cu_is, tu_is) refl
 
   -- ---- 19, or the package
-  abbrev ended : List Section → Check (List ℕ)
-  ended ss = require (all (λ x. leb (length x.bytes) section_limit) ss) 19 >>= λ _. pass (written k.big (package_objects k.objects ss))
+  abbrev ended : List Section → Result (List ℕ) ℕ
+  ended ss = require (all (λ x. leb (length x.bytes) section_limit) ss) 19 >>= λ _. Ok (written k.big (package_objects k.objects ss))
 
   -- with short strings
   ends_short : leb (length (str_of (first_uses (all_used f.inputs)))) section_limit ≡ true
@@ -117,7 +110,7 @@ module _ (b : List ℕ) (k : Bundle) (f : Filing) (s : Stored) (bases : BySectio
       then_refuse (short_strings s.used) _ 19 (ap short_strings (h.strings ∙ short_not (all_used f.inputs) t))
       ∙ sym (fails (all (λ x. leb (length x.bytes) section_limit) (those non_empty all_sections)) 19 _ (str_long t))
 
-  package_is : bundle_of b ≡ pass k → inputs_of b k k.objects ≡ pass f.inputs → package_of b s ≡ ended (package_sections k.big (version_of k) f)
+  package_is : bundle_of b ≡ Ok k → inputs_of b k k.objects ≡ Ok f.inputs → package_of b s ≡ ended (package_sections k.big (version_of k) f)
   unfolding package_of
   package_is e q =
       then_pass (bundle_of b) _ k e ∙ then_pass (inputs_of b k k.objects) _ f.inputs q
@@ -125,9 +118,9 @@ module _ (b : List ℕ) (k : Bundle) (f : Filing) (s : Stored) (bases : BySectio
 
 -- ---- a bundle
 -- the definitions behind 1 and 2
-abbrev package_or_refusal : List ℕ → Check (List ℕ)
+abbrev package_or_refusal : List ℕ → Result (List ℕ) ℕ
 package_or_refusal b = bundle_of b >>= λ k. (filing_of b k >>= λ f. (require (all (λ x. leb (length x.bytes) section_limit) (package_sections k.big (first_word k.objects % 256) f)) 19
-    >>= λ _. pass (written k.big (package_objects k.objects (package_sections k.big (first_word k.objects % 256) f)))))
+    >>= λ _. Ok (written k.big (package_objects k.objects (package_sections k.big (first_word k.objects % 256) f)))))
 
 filed_and_written : (b : List ℕ) → (filed_bundle b >>= λ s. package_of b s) ≡ package_or_refusal b
 unfolding filed_bundle version_of filing_of
@@ -138,11 +131,11 @@ filed_and_written b =
 
 answers : (b : List ℕ) (w o : ℕ) → packed_by_filing b w o ≡ packed b w o
 unfolding packed_by_filing packed judged
-answers b w o = ap (λ (c : Check (List ℕ)). answered c o)
+answers b w o = ap (λ (c : Result (List ℕ) ℕ). answered c o)
     (bind_same (require (length_good bundle_limit b) 1) _ _ (λ _ _. bind_same (require (leb (work_for_word * (length b / 4)) w) 2) _ _ (λ _ _. filed_and_written b)))
 
 -- all units of a bundle that is filed
-handed_units : (b : List ℕ) (s : Stored) → filed_bundle b ≡ pass s → (version : ℕ) × (bases : BySection ℕ) × (used : List (List ℕ)) × Holds b version bases used (handed_in b) s
+handed_units : (b : List ℕ) (s : Stored) → filed_bundle b ≡ Ok s → (version : ℕ) × (bases : BySection ℕ) × (used : List (List ℕ)) × Holds b version bases used (handed_in b) s
 unfolding filed_bundle handed_in
 handed_units b s q =
     let k = bind_pass (bundle_of b) _ s q in

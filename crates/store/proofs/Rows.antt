@@ -1,13 +1,6 @@
 -- Rows read back from kept units give the index of the rows that the definitions of package have.
-use mathlib.Core.Path.{◌≡◌, refl, sym, ap, ap₂, ◌∙◌, subst}
-use mathlib.Core.Logic.{⊎_elim}
-use mathlib.Core.Bool.{Bool, true, false, ◌||◌}
-use mathlib.Core.List.{List, [], ◌∷◌, ◌++◌, map}
-use mathlib.Core.Option.{Option, some, none}
-use Prim.Native.Nat.{ℕ, suc}
-use lib.Dec.{eqb}
-use lib.ListN.{length}
-use borrow.Author.Tests.{eqb-true}
+use Rattle.std.proofs.Common.{◌≡◌, refl, sym, ap, ap₂, ◌∙◌, subst, ⊎_elim, Bool, true, false, ◌||◌, List, [], ◌∷◌, ◌++◌, map, ℕ, suc, eqb, length, eqb-true}
+use Rattle.std.specs.Prelude.{Option, if◌then◌else◌, Some, None}
 use Rattle.octets.specs.Lists.{joined, those, any}
 use Rattle.octets.proofs.Checks.{known, true_false}
 use Rattle.octets.proofs.Lists.{any_cons, any_stops, any_append, any_none_head, any_none_tail, those_keeps, those_skips}
@@ -20,7 +13,6 @@ use Rattle.index.specs.Written.{Row, present_columns, offset_of, size_of, grid, 
 use Rattle.package.proofs.Each.{each_head, each_tail, each_those, each_so}
 use Rattle.store.specs.Stored.{KeptUnit, stated, cells_by, marked_from, marked}
 use Rattle.store.specs.Finished.{cell_from, row_in}
-use Rattle.std.specs.Prelude.{if◌then◌else◌}
 
 -- what holds of the columns of both versions
 pub by_version : (P : List Column → Type 0) → P columns_four → P columns_five → (version : ℕ) → P (columns_of version)
@@ -37,7 +29,7 @@ abbrev pub Has : List Column → ℕ → Type 0
 Has cs c = any (λ (k : Column). eqb k.section c) cs ≡ true
 
 pub each_has : (version : ℕ) → Every (λ (l : Column). Has (columns_of version) l.section) (columns_of version)
-unfolding columns_four columns_five any
+unfolding columns_four columns_five
 each_has version =
     by_version (λ (cs : List Column). Every (λ (l : Column). Has cs l.section) cs)
     (also refl (also refl (also refl (also refl (also refl (also refl (also refl (also refl nothing))))))))
@@ -52,7 +44,6 @@ unfoldable pub marks : ℕ → List Row → List Bool
 marks version rs = map (λ (l : Column). somewhere rs l.section) (columns_of version)
 
 any_one : {A : Type 0} (f : A → Bool) (x : A) → any f (x ∷ []) ≡ f x
-unfolding any
 any_one f x = ⊎_elim (λ t. any_stops f x [] t ∙ sym t) (λ t. any_cons f x [] t ∙ sym t) (known (f x))
 
 somewhere_more : (rs : List Row) (r : Row) (c : ℕ) → somewhere (rs ++ (r ∷ [])) c ≡ (somewhere rs c || is_some (r.cells c))
@@ -69,7 +60,7 @@ unfolding marked marks
 marks_more version rs r = marks_from (columns_of version) rs r
 
 pub marks_none : (version : ℕ) → map (λ (l : Column). false) (columns_of version) ≡ marks version []
-unfolding marks any
+unfolding marks
 marks_none version = refl
 
 -- ---- parts that agree in each column
@@ -87,7 +78,7 @@ marked_same (l ∷ ls) (h ∷ has) f g e = ap₂ (λ (x : Bool) (xs : List Bool)
 
 -- ---- one cell read back
 cell_here : (l : Column) (ls : List Column) (h : Bool) (has : List Bool) (k : Contribution) (ks : List Contribution) (c : ℕ) → eqb l.section c ≡ true
-    → cell_from (l ∷ ls) (h ∷ has) (k ∷ ks) c ≡ (if h then some k else none)
+    → cell_from (l ∷ ls) (h ∷ has) (k ∷ ks) c ≡ (if h then Some k else None)
 unfolding cell_from
 cell_here l ls h has k ks c t = rw (cell_from, t)
 
@@ -97,23 +88,22 @@ unfolding cell_from
 cell_later l ls h has k ks c t = rw (cell_from, t)
 
 cell_back : (m : ℕ → Bool) (g : BySection (Option Contribution)) (c : ℕ) (cs : List Column) → Has cs c
-    → cell_from cs (map (λ (l : Column). m l.section) cs) (map (λ (l : Column). stated (g l.section)) cs) c ≡ (if m c then some (stated (g c)) else none)
-unfolding any
+    → cell_from cs (map (λ (l : Column). m l.section) cs) (map (λ (l : Column). stated (g l.section)) cs) c ≡ (if m c then Some (stated (g c)) else None)
 cell_back m g c [] h = absurd (true_false h refl)
 cell_back m g c (l ∷ ls) h =
     let has = map (λ (k : Column). m k.section) ls in
     let cells = map (λ (k : Column). stated (g k.section)) ls in
     ⊎_elim
     (λ (t : eqb l.section c ≡ true).
-    cell_here l ls (m l.section) has (stated (g l.section)) cells c t ∙ ap (λ (z : ℕ). (if m z then some (stated (g z)) else none)) (eqb-true l.section c t))
+    cell_here l ls (m l.section) has (stated (g l.section)) cells c t ∙ ap (λ (z : ℕ). (if m z then Some (stated (g z)) else None)) (eqb-true l.section c t))
     (λ (t : eqb l.section c ≡ false).
     cell_later l ls (m l.section) has (stated (g l.section)) cells c t ∙ cell_back m g c ls (sym (any_cons (λ (k : Column). eqb k.section c) l ls t) ∙ h))
     (known (eqb l.section c))
 
-none_stated : (o : Option Contribution) → is_some o ≡ false → stated o ≡ stated none
+none_stated : (o : Option Contribution) → is_some o ≡ false → stated o ≡ stated None
 unfolding is_some
-none_stated (some k) e = absurd (true_false refl e)
-none_stated none e = refl
+none_stated (Some k) e = absurd (true_false refl e)
+none_stated None e = refl
 
 -- ---- kept units as rows
 unfoldable pub RowsAre : ℕ → List KeptUnit → List Row → Type 0
@@ -134,7 +124,7 @@ module _ (version : ℕ) (m : ℕ → Bool) where
   back k = row_in version (map (λ (l : Column). m l.section) (columns_of version)) k
 
   back_cell : (k : KeptUnit) (g : BySection (Option Contribution)) (c : ℕ) → k.cells ≡ cells_by version g → Has (columns_of version) c
-      → (back k).cells c ≡ (if m c then some (stated (g c)) else none)
+      → (back k).cells c ≡ (if m c then Some (stated (g c)) else None)
   unfolding row_in cells_by
   back_cell k g c e h =
       ap (λ (z : List Contribution). cell_from (columns_of version) (map (λ (l : Column). m l.section) (columns_of version)) z c) e
@@ -167,7 +157,7 @@ module _ (version : ℕ) (m : ℕ → Bool) where
 
   -- a column that no row has, or that the first row has
   somewhere_none : (ks : List KeptUnit) (rs : List Row) (c : ℕ) → RowsAre version ks rs → Has (columns_of version) c → m c ≡ false → somewhere (map (λ (k : KeptUnit). back k) ks) c ≡ false
-  unfolding RowsAre any
+  unfolding RowsAre
   somewhere_none [] rs c a h t = refl
   somewhere_none (k ∷ ks) [] c a h t = absurd a
   somewhere_none (k ∷ ks) (r ∷ rs) c a h t =
@@ -175,7 +165,7 @@ module _ (version : ℕ) (m : ℕ → Bool) where
 
   somewhere_one : (ks : List KeptUnit) (rs : List Row) (c : ℕ) → RowsAre version ks rs → Has (columns_of version) c → m c ≡ true → somewhere rs c ≡ true
       → somewhere (map (λ (k : KeptUnit). back k) ks) c ≡ true
-  unfolding RowsAre any
+  unfolding RowsAre
   somewhere_one [] [] c a h t e = e
   somewhere_one [] (r ∷ rs) c a h t e = absurd a
   somewhere_one (k ∷ ks) [] c a h t e = absurd a
@@ -191,7 +181,6 @@ somewhere_back version ks rs c a h = ⊎_elim
 
 -- ---- the index of rows that it has alike
 those_same : {A : Type 0} (p q : A → Bool) (xs : List A) → Every (λ x. p x ≡ q x) xs → those p xs ≡ those q xs
-unfolding those
 those_same p q [] e = refl
 those_same p q (x ∷ xs) e = ⊎_elim
     (λ (t : p x ≡ true). those_keeps p x xs t ∙ ap (λ z. x ∷ z) (those_same p q xs (each_tail e)) ∙ sym (those_keeps q x xs (sym (each_head e) ∙ t)))
@@ -200,13 +189,13 @@ those_same p q (x ∷ xs) e = ⊎_elim
 
 offset_stated : (o : Option Contribution) → offset_of o ≡ (stated o).offset
 unfolding offset_of stated
-offset_stated (some k) = refl
-offset_stated none = refl
+offset_stated (Some k) = refl
+offset_stated None = refl
 
 size_stated : (o : Option Contribution) → size_of o ≡ (stated o).size
 unfolding size_of stated
-size_stated (some k) = refl
-size_stated none = refl
+size_stated (Some k) = refl
+size_stated None = refl
 
 -- numbers of a cell, by what is stated
 module _ (f : Option Contribution → ℕ) (g : Contribution → ℕ) (by : (o : Option Contribution) → f o ≡ g (stated o)) where
@@ -217,7 +206,7 @@ module _ (f : Option Contribution → ℕ) (g : Contribution → ℕ) (by : (o :
       ap₂ (λ (x : ℕ) (xs : List ℕ). x ∷ xs) (by (q.cells l.section) ∙ ap g (each_head e) ∙ sym (by (r.cells l.section))) (line_same q r ls (each_tail e))
 
   grid_same : (cs : List Column) (qs rs : List Row) → SameRows cs qs rs → grid f cs qs ≡ grid f cs rs
-  unfolding SameRows grid joined
+  unfolding SameRows grid
   grid_same cs [] [] a = refl
   grid_same cs [] (r ∷ rs) a = absurd a
   grid_same cs (q ∷ qs) [] a = absurd a

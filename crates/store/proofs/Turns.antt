@@ -1,13 +1,8 @@
 -- The units of a section in turn: a bound on steps that is large enough refuses nothing.
-use mathlib.Core.Path.{◌≡◌, sym, ap, ◌∙◌}
-use mathlib.Core.Logic.{⊎_elim}
-use mathlib.Core.Bool.{true, false}
-use Prim.Native.Nat.{ℕ, zero, suc, ◌+◌, ◌<◌, ◌≤◌}
-use native.Mathlib.Omega.{arith}
-use lib.Dec.{leb}
-use lib.ListN.{length, drop}
-use borrow.Author.Tests.{leb-true, leb-false, le-leb, lt-leb}
-use Rattle.octets.specs.Checked.{pass, ◌>>=◌}
+use Rattle.std.proofs.Common.{◌≡◌, sym, ap, ◌∙◌, ⊎_elim, true, false, ℕ, zero, suc, ◌+◌, ◌<◌, ◌≤◌, arith, leb, length, drop, leb-true, leb-false, le-leb}
+use borrow.Author.Tests.{lt-leb}
+use Rattle.std.specs.Prelude.{Ok}
+use Rattle.octets.specs.Checked.{◌>>=◌}
 use Rattle.octets.proofs.Checks.{known, bind_pass, bind_same, pass_inj}
 use Rattle.unit.specs.UnitRead.{unit_by}
 use Rattle.unit.proofs.Plain.{read_by_law}
@@ -16,7 +11,7 @@ use Rattle.package.specs.Filing.{abbreviations_for}
 use Rattle.store.specs.Stored.{Stored, Reading, UnitFiled, section_bytes, read_unit, filed_read, filed_unit, filed_from, filed_rest}
 use Rattle.store.specs.Laws.{UnitsInTurn}
 
-pub from_end : (n : ℕ) (r : Reading) (at : ℕ) (s : Stored) → length (section_bytes r) ≤ at → filed_from (suc n) r at s ≡ pass s
+pub from_end : (n : ℕ) (r : Reading) (at : ℕ) (s : Stored) → length (section_bytes r) ≤ at → filed_from (suc n) r at s ≡ Ok s
 unfolding filed_from
 from_end n r at s h = rw (filed_from, le-leb (length (section_bytes r)) at h)
 
@@ -25,7 +20,7 @@ unfolding filed_from
 from_unit n r at s h = rw (filed_from, lt-leb (length (section_bytes r)) at h)
 
 -- a unit has some bytes
-moves : (r : Reading) (at : ℕ) (s : Stored) (f : UnitFiled) → filed_unit r at s ≡ pass f → at < f.next
+moves : (r : Reading) (at : ℕ) (s : Stored) (f : UnitFiled) → filed_unit r at s ≡ Ok f → at < f.next
 unfolding filed_unit read_unit
 moves r at s f q =
     let e = r.object.encoding in

@@ -1,18 +1,9 @@
 -- One unit: the step of filing is that of the definitions of package.
-use mathlib.Core.Path.{◌≡◌, refl, sym, ap, ap₂, ◌∙◌, subst}
-use mathlib.Core.Logic.{◌⊎◌, inl, inr, ⊎_elim}
-use mathlib.Core.Bool.{Bool, true, false}
-use mathlib.Core.List.{List, [], ◌∷◌, ◌++◌, map, append-nil}
-use mathlib.Core.Option.{Option, some, none}
-use Prim.Native.Nat.{ℕ, ◌+◌, ◌<◌, ◌≤◌}
-use native.Mathlib.Omega.{arith}
-use lib.Dec.{eqb, leb}
-use lib.ListN.{length, take, drop, get_or, length-append, length-drop}
-use lib.Seq.{length-take-le}
-use borrow.Author.Tests.{eq-eqb, ne_eqb}
+use Rattle.std.proofs.Common.{◌≡◌, refl, sym, ap, ap₂, ◌∙◌, subst, ◌⊎◌, inl, inr, ⊎_elim, Bool, true, false, List, [], ◌∷◌, ◌++◌, map, append-nil, ℕ, ◌+◌, ◌<◌, ◌≤◌, arith, eqb, leb, length, take, drop, get_or, length-append, length-drop, length-take-le, eq-eqb, ne_eqb}
+use Rattle.std.specs.Prelude.{Option, if◌then◌else◌, Some, None, Result, Ok}
 use Rattle.octets.specs.Octets.{part}
 use Rattle.octets.specs.Lists.{any, those, joined, same}
-use Rattle.octets.specs.Checked.{Check, pass, ◌>>=◌}
+use Rattle.octets.specs.Checked.{◌>>=◌}
 use Rattle.octets.proofs.Checks.{known, bind_pass, require_pass, pass_inj, pass_refuse, then_pass, then_refuse}
 use Rattle.octets.proofs.Parts.{part_part, length_part_le}
 use Rattle.bundle.specs.Bundle.{Part}
@@ -40,18 +31,17 @@ use Rattle.store.specs.Stored.{KeptUnit, Stored, Reading, UnitFiled, codes, sect
 use Rattle.store.proofs.Checks.{Alike, alike_pass, alike_refuse, alike_are, alike_same, bind_bind}
 use Rattle.store.proofs.Rows.{by_version, marks, marks_more, cells_same, marked_same}
 use Rattle.store.proofs.Holding.{UnitsAre, units_more, Seen, seen, unseen, Holds}
-use Rattle.std.specs.Prelude.{if◌then◌else◌}
 
 -- ---- the table of a unit that was read
 abbrev OfTable : ℕ → Type 0
 OfTable t = (t ≡ 1) ⊎ (t ≡ 2)
 
-table_kind : (e : Encoding) (a u : List ℕ) (i : Identity) (k : Kind) → by_kind e k a u ≡ pass i → OfTable i.table
+table_kind : (e : Encoding) (a u : List ℕ) (i : Identity) (k : Kind) → by_kind e k a u ≡ Ok i → OfTable i.table
 unfolding by_kind behind_common identity_by
 table_kind e a u i Compilation q = inl (sym (ap (λ (j : Identity). j.table) (pass_inj (require_pass (leb (common_size e + 8) (length u)) 11 _ i q).1)))
 table_kind e a u i Signature q = inr (sym (ap (λ (j : Identity). j.table) (pass_inj (require_pass (leb (common_size e + (8 + e.width)) (length u)) 11 _ i q).1)))
 table_kind e a u i Root q =
-    inl (sym (ap (λ (j : Identity). j.table) (pass_inj (bind_pass (root_identity e (table_at e a u) (drop (common_size e) u)) (λ x. pass (record { table = 1; identity = x })) i q).2)))
+    inl (sym (ap (λ (j : Identity). j.table) (pass_inj (bind_pass (root_identity e (table_at e a u) (drop (common_size e) u)) (λ x. Ok (record { table = 1; identity = x })) i q).2)))
 table_kind e a u i Other q = absurd (pass_refuse i 12 (sym q))
 
 -- what is known of a unit that was read
@@ -59,7 +49,7 @@ record ReadFacts (s : List ℕ) (u : UnitRead) : Type 0 where
   pub within : u.size ≤ length s
   pub tables : OfTable u.table
 
-read_facts : (e : Encoding) (home : ℕ) (f : ℕ → Check (List ℕ)) (s : List ℕ) (u : UnitRead) → unit_by e home f s ≡ pass u → ReadFacts s u
+read_facts : (e : Encoding) (home : ℕ) (f : ℕ → Result (List ℕ) ℕ) (s : List ℕ) (u : UnitRead) → unit_by e home f s ≡ Ok u → ReadFacts s u
 read_facts e home f s u q =
     let y = read_by_law e home f s u q in
     let k = unit_read e home y.abbreviations s u y.read in
@@ -77,28 +67,28 @@ based_at bases version =
 abbrev cell : BySection (Option Contribution) → ℕ → ℕ → ℕ → ℕ → ℕ → Option Contribution
 cell parts home c at size base =
     if eqb c home
-    then some (record { offset = at; size = size })
-    else elim (parts c) [ some k ↦ some (record { offset = base + k.offset; size = k.size }) | none ↦ none ]
+    then Some (record { offset = at; size = size })
+    else elim (parts c) [ Some k ↦ Some (record { offset = base + k.offset; size = k.size }) | None ↦ None ]
 
 -- ---- rows and bytes of one unit more
 module _ (ks : List Filed) (y : Filed) where
   rows_own : (t : ℕ) → y.table ≡ t → rows_from nothing_before (ks ++ (y ∷ [])) t ≡ rows_from nothing_before ks t ++ (row_at (behind_all nothing_before ks) y ∷ [])
-  unfolding rows_from entries_from those
+  unfolding rows_from entries_from
   rows_own t e =
       rows_append nothing_before ks (y ∷ []) t ∙ ap (λ (l : List Row). rows_from nothing_before ks t ++ l) (rows_here (behind_all nothing_before ks) y [] t e)
 
   rows_other : (t : ℕ) → (y.table ≡ t → ⊥) → rows_from nothing_before (ks ++ (y ∷ [])) t ≡ rows_from nothing_before ks t
-  unfolding rows_from entries_from those
+  unfolding rows_from entries_from
   rows_other t e =
       rows_append nothing_before ks (y ∷ []) t ∙ ap (λ (l : List Row). rows_from nothing_before ks t ++ l) (rows_later (behind_all nothing_before ks) y [] t e)
       ∙ append-nil (rows_from nothing_before ks t)
 
   many_own : (h : ℕ) → y.home ≡ h → length (unit_bytes (ks ++ (y ∷ [])) h) ≡ length (unit_bytes ks h) + length y.bytes
-  unfolding unit_bytes those joined
+  unfolding unit_bytes
   many_own h e = ap length (unit_append ks (y ∷ []) h ∙ ap (λ (l : List ℕ). unit_bytes ks h ++ l) (unit_here y [] h e ∙ append-nil y.bytes)) ∙ length-append (unit_bytes ks h) y.bytes
 
   many_other : (h : ℕ) → (y.home ≡ h → ⊥) → length (unit_bytes (ks ++ (y ∷ [])) h) ≡ length (unit_bytes ks h)
-  unfolding unit_bytes those joined
+  unfolding unit_bytes
   many_other h e = ap length (unit_append ks (y ∷ []) h ∙ ap (λ (l : List ℕ). unit_bytes ks h ++ l) (unit_later y [] h e) ∙ append-nil (unit_bytes ks h))
 
 -- ---- the unit at a place of a section
@@ -208,7 +198,7 @@ module _ (b : List ℕ) (i : Input) (p : Part) (version : ℕ) (versions : i.enc
     -- a known one is skipped
     module _ (old : any (is_under u.table u.identity) us ≡ true) (found : Seen b version u.table u.identity s.units us) where
       abbrev skipped_one : Filed
-      skipped_one = filed at u (λ c. none)
+      skipped_one = filed at u (λ c. None)
 
       still : kept (us ++ (skipped_one ∷ [])) ≡ kept us
       still = kept_snoc us skipped_one ∙ keep_known (kept us) skipped_one (any_kept u.table u.identity us ∙ old)
@@ -245,22 +235,22 @@ module _ (b : List ℕ) (i : Input) (p : Part) (version : ℕ) (versions : i.enc
   After us at f y = (f.next ≡ at + length y.bytes) × Holds b version bases used (us ++ (y ∷ [])) f.stored
 
   module _ (us : List Filed) (s : Stored) (k : Holds b version bases used us s) (at : ℕ) (inside : at < length bytes) (u : UnitRead) (facts : ReadFacts (drop at bytes) u) where
-    abbrev Judged : Check (BySection (Option Contribution))
+    abbrev Judged : Result (BySection (Option Contribution)) ℕ
     Judged = if any (is_under u.table u.identity) us then skipped u.table else contributions_of i p.code at u
 
-    abbrev goes : Stored → Check UnitFiled
-    goes t = pass (record { stored = t; next = at + u.size })
+    abbrev goes : Stored → Result UnitFiled ℕ
+    goes t = Ok (record { stored = t; next = at + u.size })
 
-    abbrev ends : BySection (Option Contribution) → Check Filed
-    ends parts = pass (filed at u parts)
+    abbrev ends : BySection (Option Contribution) → Result Filed ℕ
+    ends parts = Ok (filed at u parts)
 
     -- kept
     step_new : any (is_under u.table u.identity) us ≡ false → Alike (After us at) (filed_read r at u s >>= goes) (Judged >>= ends)
     unfolding filed_read new_unit ◌>>=◌
     step_new new =
         alike_are (After us at)
-        (ap (λ (o : Option KeptUnit). (elim o as (λ z. Check Stored) [ some x ↦ skipped_unit r at u x s | none ↦ new_unit r at u s ]) >>= goes) (unseen b version u.table u.identity nothing_before s.units us k.units new)
-        ∙ bind_bind (contributions_of i p.code at u) (λ parts. pass (with_unit r at u (moved s p.code u parts) s)) goes)
+        (ap (λ (o : Option KeptUnit). (elim o as (λ z. Result Stored ℕ) [ Some x ↦ skipped_unit r at u x s | None ↦ new_unit r at u s ]) >>= goes) (unseen b version u.table u.identity nothing_before s.units us k.units new)
+        ∙ bind_bind (contributions_of i p.code at u) (λ parts. Ok (with_unit r at u (moved s p.code u parts) s)) goes)
         (ap (λ (t : Bool). (if t then skipped u.table else contributions_of i p.code at u) >>= ends) new)
         (alike_same (After us at) (contributions_of i p.code at u) (λ parts. goes (with_unit r at u (moved s p.code u parts) s)) ends
         (λ parts e. alike_pass (After us at) _ _ (ap (λ (n : ℕ). at + n) (sym (long us s k at inside u facts)), unit_kept us s k at inside u facts parts new)))
@@ -271,13 +261,13 @@ module _ (b : List ℕ) (i : Input) (p : Part) (version : ℕ) (versions : i.enc
     step_old old =
         let f = seen b version u.table u.identity nothing_before s.units us k.units old in
         alike_are (After us at)
-        (ap (λ (o : Option KeptUnit). (elim o as (λ z. Check Stored) [ some x ↦ skipped_unit r at u x s | none ↦ new_unit r at u s ]) >>= goes) f.is)
+        (ap (λ (o : Option KeptUnit). (elim o as (λ z. Result Stored ℕ) [ Some x ↦ skipped_unit r at u x s | None ↦ new_unit r at u s ]) >>= goes) f.is)
         (ap (λ (t : Bool). (if t then skipped u.table else contributions_of i p.code at u) >>= ends) old)
         (⊎_elim
         (λ (t : eqb u.table 1 ≡ true).
         alike_are (After us at) (then_refuse _ goes 14 (rw (skipped_unit, t))) (then_refuse _ ends 14 (rw (skipped, t))) (alike_refuse (After us at) 14))
         (λ (t : eqb u.table 1 ≡ false).
-        alike_are (After us at) (then_pass _ goes (skips us s k at inside u facts old f) (rw (skipped_unit, t))) (then_pass _ ends (λ c. none) (rw (skipped, t)))
+        alike_are (After us at) (then_pass _ goes (skips us s k at inside u facts old f) (rw (skipped_unit, t))) (then_pass _ ends (λ c. None) (rw (skipped, t)))
         (alike_pass (After us at) _ _ (ap (λ (n : ℕ). at + n) (sym (long us s k at inside u facts)), unit_skipped us s k at inside u facts old f)))
         (known (eqb u.table 1)))
 

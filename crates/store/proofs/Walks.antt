@@ -1,18 +1,10 @@
 -- The units of a section, the sections of an object, the objects of a bundle: each step of filing is that of the definitions of package.
-use mathlib.Core.Path.{◌≡◌, refl, sym, ap, ◌∙◌, subst}
-use mathlib.Core.Logic.{◌⊎◌, inl, inr, ⊎_elim}
-use mathlib.Core.Bool.{true, false, ◌||◌}
-use mathlib.Core.List.{List, [], ◌∷◌, ◌++◌, map, append-nil, append_assoc}
-use mathlib.Core.Option.{Option, some, none}
-use Prim.Native.Nat.{ℕ, zero, suc, ◌+◌, ◌%◌, ◌<◌, ◌≤◌}
-use native.Mathlib.Omega.{arith}
-use lib.Dec.{eqb, leb}
-use lib.ListN.{length, drop, get_or, length-drop}
-use lib.Seq.{drop-drop}
-use borrow.Author.Tests.{eqb-true, leb-true, leb-false, lt-leb}
+use Rattle.std.proofs.Common.{◌≡◌, refl, sym, ap, ◌∙◌, subst, ◌⊎◌, inl, inr, ⊎_elim, true, false, ◌||◌, List, [], ◌∷◌, ◌++◌, map, append-nil, append_assoc, ℕ, zero, suc, ◌+◌, ◌%◌, ◌<◌, ◌≤◌, arith, eqb, leb, length, drop, get_or, length-drop, drop-drop, eqb-true, leb-true, leb-false}
+use Rattle.std.specs.Prelude.{Option, Some, None, Result, Ok}
+use borrow.Author.Tests.{lt-leb}
 use Rattle.numbers.specs.Limits.{section_limit}
 use Rattle.octets.specs.Octets.{part}
-use Rattle.octets.specs.Checked.{Check, pass, ◌>>=◌}
+use Rattle.octets.specs.Checked.{◌>>=◌}
 use Rattle.octets.proofs.Checks.{known, or_cases}
 use Rattle.octets.proofs.Elements.{no_length}
 use Rattle.bundle.specs.Bundle.{Part, Object, Bundle}
@@ -36,7 +28,7 @@ use Rattle.store.proofs.Turns.{from_end, from_unit}
 
 -- ---- the units of a section
 -- one of them, and what goes on behind it, where the rest of the section is known
-at_rest : (R : Stored → List Filed → Type 0) (c : Check Stored) (n : ℕ) (i : Input) (bases : BySection ℕ) (earlier here : List Filed) (home at : ℕ) (s rest : List ℕ) → s ≡ rest → 1 ≤ length rest
+at_rest : (R : Stored → List Filed → Type 0) (c : Result Stored ℕ) (n : ℕ) (i : Input) (bases : BySection ℕ) (earlier here : List Filed) (home at : ℕ) (s rest : List ℕ) → s ≡ rest → 1 ≤ length rest
     → Alike R c (unit_at i bases earlier here home at s >>= λ u. units_from n i bases earlier (here ++ (u ∷ [])) home (at + length u.bytes) (drop (length u.bytes) s))
     → Alike R c (units_from (suc n) i bases earlier here home at rest)
 unfolding units_from
@@ -44,7 +36,7 @@ at_rest R c n i bases earlier here home at s [] e l a = absurd (omega arith)
 at_rest R c n i bases earlier here home at s (x ∷ rest) e l a =
     subst (λ (z : List ℕ). Alike R c (unit_at i bases earlier here home at z >>= λ u. units_from n i bases earlier (here ++ (u ∷ [])) home (at + length u.bytes) (drop (length u.bytes) z))) e a
 
-at_end : (n : ℕ) (i : Input) (bases : BySection ℕ) (earlier here : List Filed) (home at : ℕ) (s : List ℕ) → length s ≡ 0 → units_from (suc n) i bases earlier here home at s ≡ pass here
+at_end : (n : ℕ) (i : Input) (bases : BySection ℕ) (earlier here : List Filed) (home at : ℕ) (s : List ℕ) → length s ≡ 0 → units_from (suc n) i bases earlier here home at s ≡ Ok here
 unfolding units_from
 at_end n i bases earlier here home at s e = ap (units_from (suc n) i bases earlier here home at) (no_length s e)
 
@@ -102,11 +94,11 @@ parts_homes ps =
     (each_passed (λ (p : Part). eqb p.code 1 || eqb p.code 2) ps)
 
 -- ---- strings
-pub short_is : (us : List (List ℕ)) → leb (length (str_of (first_uses us))) section_limit ≡ true → if_short us ≡ some us
+pub short_is : (us : List (List ℕ)) → leb (length (str_of (first_uses us))) section_limit ≡ true → if_short us ≡ Some us
 unfolding if_short
 short_is us t = rw (if_short, t)
 
-pub short_not : (us : List (List ℕ)) → leb (length (str_of (first_uses us))) section_limit ≡ false → if_short us ≡ none
+pub short_not : (us : List (List ℕ)) → leb (length (str_of (first_uses us))) section_limit ≡ false → if_short us ≡ None
 unfolding if_short
 short_not us t = rw (if_short, t)
 
@@ -120,17 +112,17 @@ strings_more : (s : Stored) (us more : List (List ℕ)) → s.used ≡ if_short 
 unfolding with_strings
 strings_more s us more e = ⊎_elim
     (λ (t : leb (length (str_of (first_uses us))) section_limit ≡ true).
-    ap (λ (o : Option (List (List ℕ))). elim o as (λ z. Option (List (List ℕ))) [ some x ↦ if_short (x ++ more) | none ↦ none ]) (e ∙ short_is us t))
+    ap (λ (o : Option (List (List ℕ))). elim o as (λ z. Option (List (List ℕ))) [ Some x ↦ if_short (x ++ more) | None ↦ None ]) (e ∙ short_is us t))
     (λ (t : leb (length (str_of (first_uses us))) section_limit ≡ false).
-    ap (λ (o : Option (List (List ℕ))). elim o as (λ z. Option (List (List ℕ))) [ some x ↦ if_short (x ++ more) | none ↦ none ]) (e ∙ short_not us t)
+    ap (λ (o : Option (List (List ℕ))). elim o as (λ z. Option (List (List ℕ))) [ Some x ↦ if_short (x ++ more) | None ↦ None ]) (e ∙ short_not us t)
     ∙ sym (short_not (us ++ more) (lt-leb (length (str_of (first_uses (us ++ more)))) section_limit (omega (arith, leb-false (length (str_of (first_uses us))) section_limit t, str_grows us more)))))
     (known (leb (length (str_of (first_uses us))) section_limit))
 
 -- ---- an object
 module _ (b : List ℕ) (k : Bundle) where
   -- an object and its units, as the definitions of package file them
-  abbrev pub object_units : BySection ℕ → List Filed → Object → Check (Input × List Filed)
-  object_units bases us o = input_of b k.big (first_word k.objects) o >>= λ i. (units_in i bases us [] i.units >>= λ here. pass (i, here))
+  abbrev pub object_units : BySection ℕ → List Filed → Object → Result (Input × List Filed) ℕ
+  object_units bases us o = input_of b k.big (first_word k.objects) o >>= λ i. (units_in i bases us [] i.units >>= λ here. Ok (i, here))
 
   -- behind an object
   abbrev pub Behind : BySection ℕ → List (List ℕ) → List Filed → Stored → Input × List Filed → Type 0
@@ -186,7 +178,7 @@ module _ (b : List ℕ) (k : Bundle) where
       let q = input_parts b k.big (first_word k.objects) o i e in
       let more = used_in i.pieces in
       alike_bind (Filled b i (version_of k) (object_version o i q) bases (used ++ more) us) (Behind bases used us) (filed_sections b i (unit_parts o.parts) (with_strings s more)) (units_in i bases us [] i.units)
-      (λ t. pass (with_object t i)) (λ here. pass (i, here))
+      (λ t. Ok (with_object t i)) (λ here. Ok (i, here))
       (alike_are (Filled b i (version_of k) (object_version o i q) bases (used ++ more) us) refl (ap (units_in i bases us []) (object_sections o i q))
       (sections_step b i (version_of k) (object_version o i q) bases (used ++ more) us (unit_parts o.parts) [] (with_strings s more) (parts_homes o.parts) (with_all bases used us s more h)))
       (λ t here f g z. alike_pass (Behind bases used us) _ _ (with_bases bases (used ++ more) (us ++ here) t i z)))
@@ -221,9 +213,9 @@ module _ (b : List ℕ) (k : Bundle) where
   objects_step (o ∷ os) bases used us s h =
       alike_are (Ends used us) refl
       (two_steps (input_of b k.big (first_word k.objects) o) (λ i. units_in i bases us [] i.units)
-      (λ i here. filing_from b k.big (first_word k.objects) (grown bases i) (us ++ here) os >>= λ rest. pass (record { inputs = i ∷ rest.inputs; units = here ++ rest.units })))
+      (λ i here. filing_from b k.big (first_word k.objects) (grown bases i) (us ++ here) os >>= λ rest. Ok (record { inputs = i ∷ rest.inputs; units = here ++ rest.units })))
       (alike_bind (Behind bases used us) (Ends used us) (filed_object b k o s) (object_units bases us o) (λ t. filed_objects b k os t)
-      (λ (q : Input × List Filed). filing_from b k.big (first_word k.objects) (grown bases q.0) (us ++ q.1) os >>= λ rest. pass (record { inputs = q.0 ∷ rest.inputs; units = q.1 ++ rest.units }))
+      (λ (q : Input × List Filed). filing_from b k.big (first_word k.objects) (grown bases q.0) (us ++ q.1) os >>= λ rest. Ok (record { inputs = q.0 ∷ rest.inputs; units = q.1 ++ rest.units }))
       (object_step bases used us s o h)
       (λ t q e g z. alike_right (Ends (used ++ used_in q.0.pieces) (us ++ q.1)) (Ends used us) (filed_objects b k os t) (filing_from b k.big (first_word k.objects) (grown bases q.0) (us ++ q.1) os)
       (λ (rest : Filing). record { inputs = q.0 ∷ rest.inputs; units = q.1 ++ rest.units })

@@ -1,14 +1,13 @@
 -- The store as a value: what is filed of a bundle, and what each step makes of it, unit by unit, section by section, object by object. Refusals as in
 -- `package/specs/Filing.antt`; where that keeps all units and objects with all their bytes, this keeps places in the bundle and sums.
-use Rattle.std.specs.Prelude.{Bool, false, ◌&&◌, ◌||◌, List, [], ◌∷◌, ◌++◌, map, ℕ, zero, suc, ◌+◌, ◌%◌, length, take, drop, ◌==◌, nat_le, slice_index, if◌then◌else◌}
-use Rattle.std.proofs.Math.Option.{Option, some, none}
+use Rattle.std.specs.Prelude.{Bool, false, ◌&&◌, ◌||◌, List, [], ◌∷◌, ◌++◌, map, ℕ, zero, suc, ◌+◌, ◌%◌, length, take, drop, ◌==◌, nat_le, slice_index, if◌then◌else◌, Option, Some, None, Result, Ok, Err}
 use Rattle.numbers.specs.Tables.{compilation_table}
 use Rattle.numbers.specs.Limits.{section_limit}
 use Rattle.numbers.specs.Refusals.{bad_header, identity_seen}
 use Rattle.numbers.specs.Sections.{info_code, types_code}
 use Rattle.octets.specs.Octets.{part}
 use Rattle.octets.specs.Lists.{those, same}
-use Rattle.octets.specs.Checked.{Check, pass, refuse, ◌>>=◌}
+use Rattle.octets.specs.Checked.{◌>>=◌}
 use Rattle.bundle.specs.Bundle.{Part, Object, Bundle, bundle_of}
 use Rattle.strings.specs.Strings.{first_uses, str_of}
 use Rattle.unit.specs.UnitRead.{UnitRead, unit_by}
@@ -56,7 +55,7 @@ nothing_stored version =
       units = [];
       cu_columns = map (λ c. false) (columns_of version);
       tu_columns = map (λ c. false) (columns_of version);
-      used = some [];
+      used = Some [];
       bases = map (λ c. 0) codes;
       info = 0;
       types = 0;
@@ -75,7 +74,7 @@ unfoldable pub section_bytes : Reading → List ℕ
 section_bytes r = part r.bundle r.section.start r.section.size
 
 -- 11 to 13, of the unit at a place of the section
-unfoldable pub read_unit : Reading → ℕ → Check UnitRead
+unfoldable pub read_unit : Reading → ℕ → Result UnitRead ℕ
 read_unit r at = unit_by r.object.encoding r.section.code (abbreviations_for r.object r.section.code at) (drop at (section_bytes r))
 
 -- the bytes of a kept unit
@@ -84,16 +83,16 @@ kept_bytes b k = part b k.start k.size
 
 -- the kept unit of a table and an identity
 unfoldable pub kept_under : ℕ → ℕ → List KeptUnit → Option KeptUnit
-kept_under t x [] = none
-kept_under t x (k ∷ ks) = if k.table == t && k.identity == x then some k else kept_under t x ks
+kept_under t x [] = None
+kept_under t x (k ∷ ks) = if k.table == t && k.identity == x then Some k else kept_under t x ks
 
 -- a unit whose table and identity are a kept unit's: 14 for a compilation unit; a type unit is skipped, and counted by whether its bytes are the kept one's
-unfoldable pub skipped_unit : Reading → ℕ → UnitRead → KeptUnit → Stored → Check Stored
+unfoldable pub skipped_unit : Reading → ℕ → UnitRead → KeptUnit → Stored → Result Stored ℕ
 skipped_unit r at u k s =
     let agrees = same (take u.size (drop at (section_bytes r))) (kept_bytes r.bundle k) in
     if u.table == compilation_table
-    then refuse identity_seen
-    else pass (record s { repeats = s.repeats + of_kind repeat agrees; namesakes = s.namesakes + of_kind namesake agrees })
+    then Err identity_seen
+    else Ok (record s { repeats = s.repeats + of_kind repeat agrees; namesakes = s.namesakes + of_kind namesake agrees })
 
 -- the bytes of info, or of types, that are kept
 unfoldable pub bytes_before : Stored → ℕ → ℕ
@@ -103,13 +102,13 @@ bytes_before s home = if home == info_code then s.info else s.types
 unfoldable pub moved : Stored → ℕ → UnitRead → BySection (Option Contribution) → BySection (Option Contribution)
 moved s home u parts c =
     if c == home
-    then some (record { offset = bytes_before s home; size = u.size })
-    else elim (parts c) [ some k ↦ some (record { offset = slice_index s.bases c + k.offset; size = k.size }) | none ↦ none ]
+    then Some (record { offset = bytes_before s home; size = u.size })
+    else elim (parts c) [ Some k ↦ Some (record { offset = slice_index s.bases c + k.offset; size = k.size }) | None ↦ None ]
 
 -- as it is kept: 0 and 0 for nothing
 unfoldable pub stated : Option Contribution → Contribution
-stated (some k) = k
-stated none = record { offset = 0; size = 0 }
+stated (Some k) = k
+stated None = record { offset = 0; size = 0 }
 
 unfoldable pub cells_by : ℕ → BySection (Option Contribution) → List Contribution
 cells_by version parts = map (λ c. stated (parts c.section)) (columns_of version)
@@ -137,15 +136,15 @@ with_unit r at u parts s =
     }
 
 -- 15 and 16, or the unit is kept
-unfoldable pub new_unit : Reading → ℕ → UnitRead → Stored → Check Stored
-new_unit r at u s = contributions_of r.object r.section.code at u >>= λ parts. pass (with_unit r at u (moved s r.section.code u parts) s)
+unfoldable pub new_unit : Reading → ℕ → UnitRead → Stored → Result Stored ℕ
+new_unit r at u s = contributions_of r.object r.section.code at u >>= λ parts. Ok (with_unit r at u (moved s r.section.code u parts) s)
 
 -- 14 to 16, of a unit that was read at a place of the section
-unfoldable pub filed_read : Reading → ℕ → UnitRead → Stored → Check Stored
+unfoldable pub filed_read : Reading → ℕ → UnitRead → Stored → Result Stored ℕ
 filed_read r at u s =
     elim (kept_under u.table u.identity s.units) [
-      | some k ↦ skipped_unit r at u k s
-      | none ↦ new_unit r at u s
+      | Some k ↦ skipped_unit r at u k s
+      | None ↦ new_unit r at u s
     ]
 
 -- what is filed with a unit more, and the place behind it
@@ -154,58 +153,58 @@ pub record UnitFiled : Type 0 where
   pub next : ℕ
 
 -- 11 to 16, of the unit at a place of the section
-unfoldable pub filed_unit : Reading → ℕ → Stored → Check UnitFiled
+unfoldable pub filed_unit : Reading → ℕ → Stored → Result UnitFiled ℕ
 filed_unit r at s = do
   u ← read_unit r at
   t ← filed_read r at u s
-  pass (record { stored = t; next = at + u.size })
+  Ok (record { stored = t; next = at + u.size })
 
 -- ---- all units of a section
 -- those from a place on; the first argument bounds the number of steps
-unfoldable pub filed_from : ℕ → Reading → ℕ → Stored → Check Stored
-filed_from zero r at s = refuse bad_header
+unfoldable pub filed_from : ℕ → Reading → ℕ → Stored → Result Stored ℕ
+filed_from zero r at s = Err bad_header
 filed_from (suc n) r at s =
     if nat_le (length (section_bytes r)) at
-    then pass s
+    then Ok s
     else filed_unit r at s >>= λ f. filed_from n r f.next f.stored
 
 -- no more steps than bytes
-unfoldable pub filed_rest : Reading → ℕ → Stored → Check Stored
+unfoldable pub filed_rest : Reading → ℕ → Stored → Result Stored ℕ
 filed_rest r at s = filed_from (suc (length (section_bytes r))) r at s
 
-unfoldable pub filed_section : Reading → Stored → Check Stored
+unfoldable pub filed_section : Reading → Stored → Result Stored ℕ
 filed_section r s = filed_rest r 0 s
 
 -- ---- an object
 unfoldable pub unit_parts : List Part → List Part
 unit_parts ps = those (λ p. p.code == info_code || p.code == types_code) ps
 
-unfoldable pub filed_sections : List ℕ → Input → List Part → Stored → Check Stored
-filed_sections b i [] s = pass s
+unfoldable pub filed_sections : List ℕ → Input → List Part → Stored → Result Stored ℕ
+filed_sections b i [] s = Ok s
 filed_sections b i (p ∷ ps) s = filed_section (record { bundle = b; object = i; section = p }) s >>= λ t. filed_sections b i ps t
 
 -- strings, unless their str is longer than a section may be
 unfoldable pub if_short : List (List ℕ) → Option (List (List ℕ))
-if_short used = if nat_le (length (str_of (first_uses used))) section_limit then some used else none
+if_short used = if nat_le (length (str_of (first_uses used))) section_limit then Some used else None
 
 -- with those of one object more
 unfoldable pub with_strings : Stored → List (List ℕ) → Stored
-with_strings s more = record s { used = elim s.used [ some used ↦ if_short (used ++ more) | none ↦ none ] }
+with_strings s more = record s { used = elim s.used [ Some used ↦ if_short (used ++ more) | None ↦ None ] }
 
 -- with its sections behind those of the objects before
 unfoldable pub with_object : Stored → Input → Stored
 with_object s i = record s { bases = map (λ c. slice_index s.bases c + length (i.bytes c)) codes }
 
 -- 4 to 16, and 34
-unfoldable pub filed_object : List ℕ → Bundle → Object → Stored → Check Stored
+unfoldable pub filed_object : List ℕ → Bundle → Object → Stored → Result Stored ℕ
 filed_object b k o s = do
   i ← input_of b k.big (first_word k.objects) o
   t ← filed_sections b i (unit_parts o.parts) (with_strings s (used_in i.pieces))
-  pass (with_object t i)
+  Ok (with_object t i)
 
 -- ---- a bundle
-unfoldable pub filed_objects : List ℕ → Bundle → List Object → Stored → Check Stored
-filed_objects b k [] s = pass s
+unfoldable pub filed_objects : List ℕ → Bundle → List Object → Stored → Result Stored ℕ
+filed_objects b k [] s = Ok s
 filed_objects b k (o ∷ os) s = filed_object b k o s >>= λ t. filed_objects b k os t
 
 -- the version that all objects have
@@ -213,7 +212,7 @@ unfoldable pub version_of : Bundle → ℕ
 version_of k = first_word k.objects % 256
 
 -- 3 to 16, and 34
-unfoldable pub filed_bundle : List ℕ → Check Stored
+unfoldable pub filed_bundle : List ℕ → Result Stored ℕ
 filed_bundle b = do
   k ← bundle_of b
   filed_objects b k k.objects (nothing_stored (version_of k))

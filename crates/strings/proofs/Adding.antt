@@ -1,11 +1,6 @@
 -- Adding the strings of an object's entries one by one.
-use mathlib.Core.Path.{◌≡◌, sym, ap, ap₂, ◌∙◌}
-use mathlib.Core.List.{List, [], ◌∷◌, ◌++◌, append-nil, append_assoc}
-use Prim.Native.Nat.{ℕ, ◌+◌, ◌<◌, ◌≤◌}
-use lib.ListN.{length, take, get_or}
-use lib.Seq.{take_all}
+use Rattle.std.proofs.Common.{◌≡◌, sym, ap, ap₂, ◌∙◌, List, [], ◌∷◌, ◌++◌, append-nil, append_assoc, ℕ, ◌+◌, ◌<◌, ◌≤◌, length, take, get_or, take_all}
 use Rattle.std.specs.Prelude.{Result, Ok, Err}
-use Rattle.octets.specs.Checked.{pass, refuse}
 use Rattle.numbers.specs.declared.refusals.Refusal.{Refusal}
 use Rattle.bundle.specs.Encoded.{encoding_is}
 use Rattle.bundle.specs.declared.encoding.ObjectEncoding.{ObjectEncoding}
@@ -25,7 +20,7 @@ section_entries o b e s p q = ap₂ (λ (f : ObjectEncoding) (z : List ℕ). ent
 -- the strings of the first k entries are put
 pub record Adding (b : List ℕ) (strings : Place) (region memo : List ℕ) (t : StringTable) (used : List (List ℕ)) (os : List ℕ) (k : ℕ) : Type 0 where
   pub more : List (List ℕ)
-  pub are : strings_at (bytes_at b strings) (take k os) ≡ pass more
+  pub are : strings_at (bytes_at b strings) (take k os) ≡ Ok more
   pub putting : Putting b strings region memo t (used ++ more)
 
 module _ (b : List ℕ) (strings : Place) (region memo : List ℕ) (t : StringTable) (used : List (List ℕ)) (os : List ℕ) where
@@ -33,7 +28,7 @@ module _ (b : List ℕ) (strings : Place) (region memo : List ℕ) (t : StringTa
   adding_none p = record { more = []; are = strings_at_none (bytes_at b strings); putting = rw (append-nil used) p }
 
   module _ (k : ℕ) (a : Adding b strings region memo t used os k) where
-    pub adding_more : (x m : List ℕ) (r : StringTable) (s : List ℕ) (o : ℕ) → k < length os → o ≡ get_or os k 0 → string_at 9 (bytes_at b strings) o ≡ pass s
+    pub adding_more : (x m : List ℕ) (r : StringTable) (s : List ℕ) (o : ℕ) → k < length os → o ≡ get_or os k 0 → string_at 9 (bytes_at b strings) o ≡ Ok s
         → PutsString b strings o region memo t x m r → Adding b strings x m r used os (k + 1)
     adding_more x m r s o h q e p =
         record {
@@ -42,11 +37,11 @@ module _ (b : List ℕ) (strings : Place) (region memo : List ℕ) (t : StringTa
           putting = rw (← append_assoc used a.more (s ∷ [])) (p (used ++ a.more) s a.putting e);
         }
 
-    pub adding_all : length os ≤ k → (more : List (List ℕ)) × (strings_at (bytes_at b strings) os ≡ pass more) × Putting b strings region memo t (used ++ more)
+    pub adding_all : length os ≤ k → (more : List (List ℕ)) × (strings_at (bytes_at b strings) os ≡ Ok more) × Putting b strings region memo t (used ++ more)
     adding_all h = (a.more, sym (ap (strings_at (bytes_at b strings)) (take_all k os h)) ∙ a.are, a.putting)
 
 pub adding_missing : (b : List ℕ) (strings : Place) (os : List ℕ) (k o n : ℕ) → k < length os → o ≡ get_or os k 0
-    → string_at 9 (bytes_at b strings) o ≡ refuse n → strings_at (bytes_at b strings) os ≡ refuse 9
+    → string_at 9 (bytes_at b strings) o ≡ Err n → strings_at (bytes_at b strings) os ≡ Err 9
 adding_missing b strings os k o n h q e = strings_at_fails (bytes_at b strings) os k n h (rw q at e)
 
 -- where no more follow

@@ -1,12 +1,5 @@
 -- Laws of the table of strings: it grows only at its end, has every string that was put, and none twice.
-use mathlib.Core.Path.{◌≡◌, refl, sym, ap, ◌∙◌}
-use mathlib.Core.Logic.{⊎_elim}
-use mathlib.Core.Bool.{Bool, true, false}
-use mathlib.Core.List.{List, [], ◌∷◌, ◌++◌, append-nil, append_assoc}
-use Prim.Native.Nat.{ℕ, zero, suc, ◌+◌, ◌<◌, ◌≤◌}
-use native.Mathlib.Nat.{not-suc-le-zero, le_of_suc-le-suc}
-use native.Mathlib.Omega.{arith}
-use lib.ListN.{length, get_or, length-append}
+use Rattle.std.proofs.Common.{◌≡◌, refl, sym, ap, ◌∙◌, ⊎_elim, Bool, true, false, List, [], ◌∷◌, ◌++◌, append-nil, append_assoc, ℕ, zero, suc, ◌+◌, ◌<◌, ◌≤◌, not-suc-le-zero, le_of_suc-le-suc, arith, length, get_or, length-append}
 use Rattle.octets.specs.Lists.{any, same}
 use Rattle.octets.proofs.Checks.{known, or_left, or_right}
 use Rattle.octets.proofs.Lists.{same_refl, same_sym, any_stops, any_append, any_none_tail}
@@ -89,7 +82,7 @@ used_in_law used i h = put_all_has [] used i h
 
 -- ---- no string twice
 pub distinct_snoc : (table : List (List ℕ)) (s : List ℕ) → Distinct table → is_in table s ≡ false → Distinct (table ++ (s ∷ []))
-unfolding any Distinct
+unfolding Distinct
 distinct_snoc [] s d e = (refl, tt)
 distinct_snoc (t ∷ ts) s d e = grind (arith, same_sym, any_append, distinct_snoc ts s d.1 (any_none_tail (same s) t ts e))
 

@@ -1,13 +1,7 @@
 -- Laws of the hash: turns of the loop that computes it, and where a search starts.
-use mathlib.Core.Path.{◌≡◌}
-use mathlib.Core.Bool.{false}
-use mathlib.Core.List.{List}
-use Prim.Native.Nat.{ℕ, suc, ◌+◌, ◌*◌, ◌-◌, ◌/◌, ◌%◌, ◌<◌, ◌≤◌, ◌^◌}
-use native.Mathlib.Nat.{sub-zero, add-zero, zero-div, mod-lt}
-use native.Mathlib.Omega.{arith}
-use lib.ListN.{length, drop, get_or, get_or-eq_default}
-use lib.Seq.{drop-drop}
-use borrow.Author.Tests.{lt-ltb, le-ltb}
+use Rattle.std.proofs.Common.{◌≡◌, false, List, ℕ, suc, ◌+◌, ◌*◌, ◌-◌, ◌/◌, ◌%◌, ◌<◌, ◌≤◌, ◌^◌, add-zero, mod-lt, arith, length, drop, get_or, drop-drop, lt-ltb, le-ltb}
+use native.Mathlib.Nat.{sub-zero, zero-div}
+use lib.ListN.{get_or-eq_default}
 use Rattle.octets.specs.Octets.{number_at}
 use Rattle.octets.proofs.Numbers.{number_at_drop}
 use Rattle.strings.specs.Indexed.{product, mixed, groups_from, hash_of, root_of, side}

@@ -1,13 +1,8 @@
 -- Pieces by their headers: the one at the front, and those behind it.
-use mathlib.Core.Path.{◌≡◌, refl, sym, ap, ◌∙◌, subst}
-use mathlib.Core.List.{List, [], ◌∷◌, ◌++◌, append_assoc, append-nil}
-use Prim.Native.Nat.{ℕ, ◌+◌, ◌*◌, ◌-◌, ◌<◌, ◌≤◌}
-use native.Mathlib.Omega.{arith}
-use lib.ListN.{length, take, drop, length-append}
-use lib.Seq.{take_at, drop_at}
-use borrow.Author.Tests.{eq-eqb, ne_eqb}
+use Rattle.std.proofs.Common.{◌≡◌, refl, sym, ap, ◌∙◌, subst, List, [], ◌∷◌, ◌++◌, append_assoc, append-nil, ℕ, ◌+◌, ◌*◌, ◌-◌, ◌<◌, ◌≤◌, arith, length, take, drop, length-append, take_at, drop_at, eq-eqb, ne_eqb}
 use Rattle.octets.specs.Octets.{part}
-use Rattle.octets.specs.Checked.{Check, pass, refuse, ◌>>=◌}
+use Rattle.std.specs.Prelude.{Result, Ok, Err}
+use Rattle.octets.specs.Checked.{◌>>=◌}
 use Rattle.octets.proofs.Checks.{then_pass, then_refuse, bind_pass, pass_inj}
 use Rattle.octets.proofs.Parts.{part_add, part_is, part_none, length_part}
 use Rattle.bundle.specs.Encoding.{Encoding}
@@ -45,7 +40,7 @@ pub record Front (e : Encoding) (s : List ℕ) (ps : List (List ℕ)) : Type 0 w
   pub shape : s ≡ piece ++ rest
   pub some : 1 ≤ length piece
   pub size : piece_size e s ≡ length piece
-  pub entries : entries_of e piece ≡ pass (entries_in e piece)
+  pub entries : entries_of e piece ≡ Ok (entries_in e piece)
   pub on : Headed e rest others
 
 headed_front : (e : Encoding) (s : List ℕ) (ps : List (List ℕ)) → Headed e s ps → 0 < length s → Front e s ps
@@ -109,35 +104,35 @@ module _ (e : Encoding) (ok : Sound e) (b : List ℕ) (at end : ℕ) (inside : e
 
 -- ---- the strings of pieces
 module _ (e : Encoding) (str : List ℕ) where
-  behind_all : (m : Check (List (List ℕ))) (us vs : List (List ℕ)) → ((m >>= λ w. pass (vs ++ w)) >>= λ w. pass (us ++ w)) ≡ (m >>= λ w. pass ((us ++ vs) ++ w))
+  behind_all : (m : Result (List (List ℕ)) ℕ) (us vs : List (List ℕ)) → ((m >>= λ w. Ok (vs ++ w)) >>= λ w. Ok (us ++ w)) ≡ (m >>= λ w. Ok ((us ++ vs) ++ w))
   unfolding ◌>>=◌
-  behind_all (pass w) us vs = ap pass (sym (append_assoc us vs w))
-  behind_all (refuse n) us vs = refl
+  behind_all (Ok w) us vs = ap Ok (sym (append_assoc us vs w))
+  behind_all (Err n) us vs = refl
 
-  behind_none : (m : Check (List (List ℕ))) → m ≡ (m >>= λ w. pass w)
+  behind_none : (m : Result (List (List ℕ)) ℕ) → m ≡ (m >>= λ w. Ok w)
   unfolding ◌>>=◌
-  behind_none (pass w) = refl
-  behind_none (refuse n) = refl
+  behind_none (Ok w) = refl
+  behind_none (Err n) = refl
 
-  all_behind : (xs ys used : List (List ℕ)) → strings_of_all e str xs ≡ pass used → strings_of_all e str (xs ++ ys) ≡ (strings_of_all e str ys >>= λ vs. pass (used ++ vs))
+  all_behind : (xs ys used : List (List ℕ)) → strings_of_all e str xs ≡ Ok used → strings_of_all e str (xs ++ ys) ≡ (strings_of_all e str ys >>= λ vs. Ok (used ++ vs))
   unfolding strings_of_all
-  all_behind [] ys used q = let z : [] ≡ used = pass_inj q in subst (λ (u : List (List ℕ)). strings_of_all e str ys ≡ (strings_of_all e str ys >>= λ vs. pass (u ++ vs))) z (behind_none (strings_of_all e str ys))
+  all_behind [] ys used q = let z : [] ≡ used = pass_inj q in subst (λ (u : List (List ℕ)). strings_of_all e str ys ≡ (strings_of_all e str ys >>= λ vs. Ok (u ++ vs))) z (behind_none (strings_of_all e str ys))
   all_behind (x ∷ xs) ys used q =
       let us = bind_pass (strings_at str (entries_in e x)) _ used q in
       let vs = bind_pass (strings_of_all e str xs) _ used us.2 in
       let on = all_behind xs ys vs.0 vs.1 in
       then_pass _ _ us.0 us.1
-      ∙ ap (λ (m : Check (List (List ℕ))). m >>= λ w. pass (us.0 ++ w)) on
+      ∙ ap (λ (m : Result (List (List ℕ)) ℕ). m >>= λ w. Ok (us.0 ++ w)) on
       ∙ behind_all (strings_of_all e str ys) us.0 vs.0
-      ∙ ap (λ (u : List (List ℕ)). strings_of_all e str ys >>= λ w. pass (u ++ w)) (pass_inj vs.2)
+      ∙ ap (λ (u : List (List ℕ)). strings_of_all e str ys >>= λ w. Ok (u ++ w)) (pass_inj vs.2)
 
-  all_more : (done : List (List ℕ)) (p : List ℕ) (used us : List (List ℕ)) → strings_of_all e str done ≡ pass used → strings_at str (entries_in e p) ≡ pass us
-      → strings_of_all e str (done ++ (p ∷ [])) ≡ pass (used ++ us)
+  all_more : (done : List (List ℕ)) (p : List ℕ) (used us : List (List ℕ)) → strings_of_all e str done ≡ Ok used → strings_at str (entries_in e p) ≡ Ok us
+      → strings_of_all e str (done ++ (p ∷ [])) ≡ Ok (used ++ us)
   unfolding strings_of_all ◌>>=◌
   all_more done p used us d q = grind (arith, all_behind done (p ∷ []) used d, then_pass, append-nil)
 
-  all_refused : (done : List (List ℕ)) (p : List ℕ) (ps used : List (List ℕ)) (n : ℕ) → strings_of_all e str done ≡ pass used → strings_at str (entries_in e p) ≡ refuse n
-      → strings_of_all e str (done ++ (p ∷ ps)) ≡ refuse n
+  all_refused : (done : List (List ℕ)) (p : List ℕ) (ps used : List (List ℕ)) (n : ℕ) → strings_of_all e str done ≡ Ok used → strings_at str (entries_in e p) ≡ Err n
+      → strings_of_all e str (done ++ (p ∷ ps)) ≡ Err n
   unfolding strings_of_all
   all_refused done p ps used n d q = all_behind done (p ∷ ps) used d ∙ then_refuse (strings_of_all e str (p ∷ ps)) _ n (then_refuse (strings_at str (entries_in e p)) _ n q)
 
@@ -148,7 +143,7 @@ pub record PiecesPut (b : List ℕ) (e : Encoding) (strings : Place) (region mem
   pub all : ps ≡ done ++ ahead
   pub headed : Headed e (part b at (end - at)) ahead
   pub used : List (List ℕ)
-  pub are : strings_of_all e (bytes_at b strings) done ≡ pass used
+  pub are : strings_of_all e (bytes_at b strings) done ≡ Ok used
   pub putting : Putting b strings region memo t (ts ++ used)
 
 -- as the walk over a section begins
@@ -181,7 +176,7 @@ module _ (b : List ℕ) (e : Encoding) (ok : Sound e) (strings : Place) (region 
     piece_few = walk_few e ok b at end inside p.ahead p.headed more size q
 
     -- its strings are put
-    pub pieces_more : (x m : List ℕ) (u : StringTable) (us : List (List ℕ)) → strings_at (bytes_at b strings) (entries_in e (bytes_at b piece)) ≡ pass us → Putting b strings x m u ((ts ++ p.used) ++ us)
+    pub pieces_more : (x m : List ℕ) (u : StringTable) (us : List (List ℕ)) → strings_at (bytes_at b strings) (entries_in e (bytes_at b piece)) ≡ Ok us → Putting b strings x m u ((ts ++ p.used) ++ us)
         → PiecesPut b e strings x m u ts ps (at + size) end
     pieces_more x m u us g put =
         record {
@@ -195,9 +190,9 @@ module _ (b : List ℕ) (e : Encoding) (ok : Sound e) (strings : Place) (region 
         }
 
     -- one is missing
-    pub pieces_missing : (n : ℕ) → strings_at (bytes_at b strings) (entries_in e (bytes_at b piece)) ≡ refuse n → strings_of_all e (bytes_at b strings) ps ≡ refuse n
+    pub pieces_missing : (n : ℕ) → strings_at (bytes_at b strings) (entries_in e (bytes_at b piece)) ≡ Err n → strings_of_all e (bytes_at b strings) ps ≡ Err n
     pieces_missing n g = grind (arith, all_refused, entries_own)
 
   -- none is left
-  pub pieces_all : end ≤ at → (more : List (List ℕ)) × (strings_of_all e (bytes_at b strings) ps ≡ pass more) × Kept b region t (ts ++ more)
+  pub pieces_all : end ≤ at → (more : List (List ℕ)) × (strings_of_all e (bytes_at b strings) ps ≡ Ok more) × Kept b region t (ts ++ more)
   pieces_all h = let none = walk_end e ok b at end inside p.ahead p.headed h in (p.used, grind (arith, p.all, p.are, none, append-nil), p.putting.kept)

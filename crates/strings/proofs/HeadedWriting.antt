@@ -1,14 +1,9 @@
 -- Pieces written one behind the other, each with the next of the numbers; and what comes out where the numbers are the places of the strings that their entries name.
 use Rattle.std.proofs.lemmas.Grind.{common_steps}
-use mathlib.Core.Path.{◌≡◌, refl, sym, ap, ap₂, ◌∙◌}
-use mathlib.Core.List.{List, [], ◌∷◌, ◌++◌, map, append_assoc}
-use Prim.Native.Nat.{ℕ, ◌+◌, ◌*◌, ◌-◌, ◌<◌, ◌≤◌}
-use native.Mathlib.Omega.{arith}
-use lib.ListN.{length, take, drop, length-append, length-take, length-drop}
-use lib.Seq.{drop-drop, take_at, drop_at, length-take-le}
+use Rattle.std.proofs.Common.{◌≡◌, refl, sym, ap, ap₂, ◌∙◌, List, [], ◌∷◌, ◌++◌, map, append_assoc, ℕ, ◌+◌, ◌*◌, ◌-◌, ◌<◌, ◌≤◌, arith, length, take, drop, length-append, length-take, length-drop, drop-drop, take_at, drop_at, length-take-le}
 use Rattle.octets.specs.Octets.{part, placed, numbers_of}
 use Rattle.octets.specs.Lists.{joined}
-use Rattle.octets.specs.Checked.{pass}
+use Rattle.std.specs.Prelude.{Ok}
 use Rattle.octets.proofs.Checks.{bind_pass, pass_inj}
 use Rattle.octets.proofs.Joined.{map-append}
 use Rattle.octets.proofs.Parts.{part_cut, part_whole, length_part, drop_part}
@@ -123,7 +118,7 @@ pub ruleset pieces_written =
     (part_cut, length_part, sound, walk_asks, walk_some, ahead_all, ahead_header, ahead_size, ahead_count, ahead_more, ahead_counted, ahead_none)
 
 -- ---- the numbers are the places of the strings that the entries name
-pub used_is : (e : Encoding) (str p : List ℕ) (us : List (List ℕ)) → strings_at str (entries_in e p) ≡ pass us → used_of e str p ≡ us
+pub used_is : (e : Encoding) (str p : List ℕ) (us : List (List ℕ)) → strings_at str (entries_in e p) ≡ Ok us → used_of e str p ≡ us
 unfolding used_of
 used_is e str p us q = rw (used_of, q)
 
@@ -131,22 +126,22 @@ used_is e str p us q = rw (used_of, q)
 record Named (e : Encoding) (str p : List ℕ) (ps used : List (List ℕ)) : Type 0 where
   us : List (List ℕ)
   vs : List (List ℕ)
-  own : strings_at str (entries_in e p) ≡ pass us
-  others : strings_of_all e str ps ≡ pass vs
+  own : strings_at str (entries_in e p) ≡ Ok us
+  others : strings_of_all e str ps ≡ Ok vs
   are : us ++ vs ≡ used
   count : length (entries_in e p) ≡ length us
 
-named : (e : Encoding) (str p : List ℕ) (ps used : List (List ℕ)) → strings_of_all e str (p ∷ ps) ≡ pass used → Named e str p ps used
+named : (e : Encoding) (str p : List ℕ) (ps used : List (List ℕ)) → strings_of_all e str (p ∷ ps) ≡ Ok used → Named e str p ps used
 unfolding strings_of_all
 named e str p ps used q = grind (arith, bind_pass, length_strings_at)
 
 -- each entry names a string
-pub entries_all_used : (e : Encoding) (str : List ℕ) (ps used : List (List ℕ)) → strings_of_all e str ps ≡ pass used → entries_all e ps ≡ length used
+pub entries_all_used : (e : Encoding) (str : List ℕ) (ps used : List (List ℕ)) → strings_of_all e str ps ≡ Ok used → entries_all e ps ≡ length used
 unfolding entries_all strings_of_all
 entries_all_used e str [] used q = ap length (pass_inj q)
 entries_all_used e str (p ∷ ps) used q = let k = named e str p ps used q in grind (arith, k.count, k.are, length-append, entries_all_used e str ps k.vs k.others)
 
-pub pieces_with_used : (e : Encoding) (table : List (List ℕ)) (str : List ℕ) (ps used : List (List ℕ)) (rest : List ℕ) → strings_of_all e str ps ≡ pass used
+pub pieces_with_used : (e : Encoding) (table : List (List ℕ)) (str : List ℕ) (ps used : List (List ℕ)) (rest : List ℕ) → strings_of_all e str ps ≡ Ok used
     → pieces_with e ps (map (offset_in table) used ++ rest) ≡ remapped_pieces e table str ps
 unfolding pieces_with remapped_pieces piece_with remapped
 pieces_with_used e table str [] used rest q = refl
@@ -163,13 +158,13 @@ pieces_with_used e table str (p ∷ ps) used rest q =
     ∙ ap (λ (l : List ℕ). piece_with e p (f (used_of e str p)) ++ l) (pieces_with_used e table str ps k.vs rest k.others)
 
 -- where strings of later sections follow, and whatever else
-pub pieces_with_more : (e : Encoding) (table : List (List ℕ)) (str : List ℕ) (ps used later : List (List ℕ)) (rest : List ℕ) → strings_of_all e str ps ≡ pass used
+pub pieces_with_more : (e : Encoding) (table : List (List ℕ)) (str : List ℕ) (ps used later : List (List ℕ)) (rest : List ℕ) → strings_of_all e str ps ≡ Ok used
     → pieces_with e ps (map (offset_in table) (used ++ later) ++ rest) ≡ remapped_pieces e table str ps
 pieces_with_more e table str ps used later rest q = grind (arith, map-append, append_assoc, pieces_with_used)
 
 -- four bytes or more for each entry
 pub entries_all_few : (e : Encoding) (ps : List (List ℕ)) → Sound e → 4 * entries_all e ps ≤ length (joined ps)
-unfolding entries_all joined
+unfolding entries_all
 entries_all_few e [] ok = omega arith
 entries_all_few e (p ∷ ps) ok = omega (arith, entries_few e p ok, entries_all_few e ps ok, length-append p (joined ps))
 

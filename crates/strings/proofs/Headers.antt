@@ -1,17 +1,10 @@
 -- The cases of a header and of entries as the code tests them, and of a string that ends at the first zero byte.
-use mathlib.Core.Path.{◌≡◌, refl, sym, ap, ◌∙◌}
-use mathlib.Core.Bool.{Bool, true, false, ◌&&◌, ◌||◌}
-use mathlib.Core.List.{List, ◌∷◌, ◌++◌}
-use Rattle.std.specs.Prelude.{Some, None}
-use Prim.Native.Nat.{ℕ, suc, ◌+◌, ◌*◌, ◌-◌, ◌/◌, ◌%◌, ◌<◌, ◌≤◌}
-use native.Mathlib.Omega.{arith}
-use lib.Dec.{eqb, leb}
-use lib.ListN.{length, drop, get_or, length-drop}
-use lib.Seq.{drop-cons, get_or-drop}
+use Rattle.std.proofs.Common.{◌≡◌, refl, sym, ap, ◌∙◌, Bool, true, false, ◌&&◌, ◌||◌, List, ◌∷◌, ◌++◌, ℕ, suc, ◌+◌, ◌*◌, ◌-◌, ◌/◌, ◌%◌, ◌<◌, ◌≤◌, arith, eqb, leb, length, drop, get_or, length-drop, drop-cons, get_or-drop}
+use Rattle.std.specs.Prelude.{Some, None, Result, Ok, Err}
 use borrow.Author.Tests.{lt-leb}
 use Rattle.octets.specs.Octets.{part, number_at}
 use Rattle.octets.specs.Lists.{ZeroFound}
-use Rattle.octets.specs.Checked.{Check, pass, refuse, mapped}
+use Rattle.octets.specs.Checked.{mapped}
 use Rattle.octets.proofs.Checks.{not_left, not_right}
 use Rattle.octets.proofs.Parts.{length_part, get_d_part, drop_part}
 use Rattle.octets.proofs.Elements.{not_has}
@@ -67,17 +60,17 @@ pub ruleset header_sizes = (sound, size_five, size_four)
 
 -- ---- 8 as the code tests it
 module _ (e : Encoding) (s : List ℕ) where
-  pub ill_header : header_true e s ≡ false → refuse 8 ≡ mapped length (entries_of e s)
+  pub ill_header : header_true e s ≡ false → Err 8 ≡ mapped length (entries_of e s)
   unfolding mapped
   ill_header h = sym (ap (mapped length) (entries_false e s h))
 
   -- with the header's size and the width as the code has them
   module _ (h w : ℕ) (p : h ≡ header_size e) (q : w ≡ e.width) where
-    pub ill_rest : header_true e s ≡ true → ((length s - h) % w ≡ 0 → ⊥) → refuse 8 ≡ mapped length (entries_of e s)
+    pub ill_rest : header_true e s ≡ true → ((length s - h) % w ≡ 0 → ⊥) → Err 8 ≡ mapped length (entries_of e s)
     unfolding mapped
     ill_rest t g = sym (ap (mapped length) (entries_odd e s t (λ z. g (rw (p, q) z))))
 
-    pub well_formed : header_true e s ≡ true → (length s - h) % w ≡ 0 → pass ((length s - h) / w) ≡ mapped length (entries_of e s)
+    pub well_formed : header_true e s ≡ true → (length s - h) % w ≡ 0 → Ok ((length s - h) / w) ≡ mapped length (entries_of e s)
     unfolding mapped
     well_formed t g = rw (p, q) (grind (arith, length_entries_in, whole_entries))
 
@@ -98,12 +91,12 @@ pub ruleset entry_tests = (sound, header_within, ill_header, ill_rest, well_form
 pub ruleset entry_reads = (sound, entry_ends, entry_is)
 
 -- ---- a string up to the first zero byte
-pub read_beyond : (n : ℕ) (s : List ℕ) (offset : ℕ) → length s ≤ offset → refuse n ≡ mapped (string_place offset) (string_at n s offset)
+pub read_beyond : (n : ℕ) (s : List ℕ) (offset : ℕ) → length s ≤ offset → Err n ≡ mapped (string_place offset) (string_at n s offset)
 unfolding mapped
 read_beyond n s offset h = sym (ap (mapped (string_place offset)) (string_at_beyond n s offset h))
 
 module _ (n : ℕ) (s : List ℕ) (start : ℕ) where
-  pub read_found : (end : ℕ) → ZeroFound s start (Some end) → pass (record { start = start; size = end - start }) ≡ mapped (string_place start) (string_at n s start)
+  pub read_found : (end : ℕ) → ZeroFound s start (Some end) → Ok (record { start = start; size = end - start }) ≡ mapped (string_place start) (string_at n s start)
   unfolding string_at mapped
   read_found end (h, f) =
       let k = f.reached in
@@ -116,9 +109,9 @@ module _ (n : ℕ) (s : List ℕ) (start : ℕ) where
       drop_part s start (end - start) ∙ ap (λ (z : ℕ). t ++ drop z s) behind ∙ ap (λ (z : List ℕ). t ++ z) (drop-cons s end 0 h)
       ∙ ap (λ (z : ℕ). t ++ (z ∷ drop (suc end) s)) (f.found h) in
       let place : ℕ → Place = λ (z : ℕ). record { start = start; size = z } in
-      sym (ap (mapped (string_place start)) (ap (up_to_zero n) parts ∙ up_to_ended n t (drop (suc end) s) clean) ∙ ap (λ (z : ℕ). pass (place z)) l)
+      sym (ap (mapped (string_place start)) (ap (up_to_zero n) parts ∙ up_to_ended n t (drop (suc end) s) clean) ∙ ap (λ (z : ℕ). Ok (place z)) l)
 
-  pub read_none : ZeroFound s start None → refuse n ≡ mapped (string_place start) (string_at n s start)
+  pub read_none : ZeroFound s start None → Err n ≡ mapped (string_place start) (string_at n s start)
   unfolding string_at mapped
   read_none f = grind (arith, not_has, length-drop, get_or-drop, up_to_never)
 
@@ -126,12 +119,12 @@ module _ (n : ℕ) (s : List ℕ) (start : ℕ) where
 pub ruleset string_reads = (read_beyond, read_found, read_none)
 
 -- ---- what callers read from it
-pub place_found : (p : Place) (at : ℕ) (m : Check (List ℕ)) → pass p ≡ mapped (string_place at) m → (t : List ℕ) × (m ≡ pass t) × (p.start ≡ at) × (p.size ≡ length t)
+pub place_found : (p : Place) (at : ℕ) (m : Result (List ℕ) ℕ) → Ok p ≡ mapped (string_place at) m → (t : List ℕ) × (m ≡ Ok t) × (p.start ≡ at) × (p.size ≡ length t)
 unfolding mapped
-place_found p at (pass t) e = let q : p ≡ string_place at t = cc in (t, refl, ap (λ (z : Place). z.start) q, ap (λ (z : Place). z.size) q)
-place_found p at (refuse k) e = cc
+place_found p at (Ok t) e = let q : p ≡ string_place at t = cc in (t, refl, ap (λ (z : Place). z.start) q, ap (λ (z : Place). z.size) q)
+place_found p at (Err k) e = cc
 
-pub place_missing : (n at : ℕ) (m : Check (List ℕ)) → refuse n ≡ mapped (string_place at) m → m ≡ refuse n
+pub place_missing : (n at : ℕ) (m : Result (List ℕ) ℕ) → Err n ≡ mapped (string_place at) m → m ≡ Err n
 unfolding mapped
-place_missing n at (pass t) e = cc
-place_missing n at (refuse k) e = cc
+place_missing n at (Ok t) e = cc
+place_missing n at (Err k) e = cc

@@ -1,14 +1,9 @@
 -- The region that holds the table of kept strings: a search of it, one row more with its number in the index, and one place more.
-use mathlib.Core.Path.{◌≡◌, refl, sym, ap, ◌∙◌}
-use mathlib.Core.Logic.{◌⊎◌, inl, inr, ⊎_elim}
-use mathlib.Core.Bool.{Bool, true, false}
-use mathlib.Core.List.{List, [], ◌∷◌, ◌++◌}
-use Prim.Native.Nat.{ℕ, suc, ◌+◌, ◌*◌, ◌-◌, ◌/◌, ◌<◌, ◌≤◌}
+use Rattle.std.proofs.Common.{◌≡◌, refl, sym, ap, ◌∙◌, ◌⊎◌, inl, inr, ⊎_elim, Bool, true, false, List, [], ◌∷◌, ◌++◌, ℕ, suc, ◌+◌, ◌*◌, ◌-◌, ◌/◌, ◌<◌, ◌≤◌, arith, length, get_or, length-append, take_at}
 use native.Mathlib.Decide.{dec_le}
-use native.Mathlib.Omega.{arith}
 use Rattle.std.specs.Prelude.{Ok, Err}
-use lib.ListN.{length, get_or, length-append, get_or-append}
-use lib.Seq.{take-append-le, get_or_at, take_at}
+use lib.ListN.{get_or-append}
+use lib.Seq.{take-append-le, get_or_at}
 use Rattle.octets.specs.Octets.{placed}
 use Rattle.octets.specs.Lists.{same}
 use Rattle.octets.proofs.Lists.{same_eq, same_refl, ne_same}

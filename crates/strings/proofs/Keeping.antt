@@ -1,13 +1,6 @@
 -- The state of the table of kept strings: what putting one string leaves.
-use Rattle.std.proofs.Common.{rules}
-use mathlib.Core.Path.{◌≡◌, sym, ap, ap₂, ◌∙◌}
-use mathlib.Core.Bool.{true, false}
-use mathlib.Core.List.{List, [], ◌∷◌, ◌++◌}
-use Prim.Native.Nat.{ℕ, ◌+◌, ◌*◌, ◌-◌, ◌<◌, ◌≤◌}
-use native.Mathlib.Omega.{arith}
+use Rattle.std.proofs.Common.{rules, ◌≡◌, sym, ap, ap₂, ◌∙◌, true, false, List, [], ◌∷◌, ◌++◌, ℕ, ◌+◌, ◌*◌, ◌-◌, ◌<◌, ◌≤◌, arith, length, get_or, length-append, ltb-false, le-ltb}
 use Rattle.std.specs.Prelude.{Some, None, Ok}
-use lib.ListN.{length, get_or, length-append}
-use borrow.Author.Tests.{ltb-false, le-ltb}
 use Rattle.numbers.specs.Limits.{string_words}
 use Rattle.octets.specs.Octets.{placed, zeros}
 use Rattle.octets.proofs.Joined.{map-append}

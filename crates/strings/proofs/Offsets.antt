@@ -1,16 +1,8 @@
 -- Laws of offsets in a table of strings: what was found early stays, and the str section has the string there.
-use mathlib.Core.Path.{◌≡◌, refl, sym, ap, ap₂, ◌∙◌}
-use mathlib.Core.Logic.{⊎_elim}
-use mathlib.Core.Bool.{true, false}
-use mathlib.Core.List.{List, [], ◌∷◌, ◌++◌, map, append-nil, append_assoc}
-use Prim.Native.Nat.{ℕ, zero, suc, ◌+◌, ◌<◌, ◌≤◌}
-use native.Mathlib.Nat.{not-suc-le-zero, le_of_suc-le-suc}
-use native.Mathlib.Omega.{arith}
-use native.Mathlib.Numerals.{add-one}
-use lib.ListN.{length, take, drop, get_or, length-append}
-use lib.Seq.{take-suc, drop-append-add}
+use Rattle.std.proofs.Common.{◌≡◌, refl, sym, ap, ap₂, ◌∙◌, ⊎_elim, true, false, List, [], ◌∷◌, ◌++◌, map, append-nil, append_assoc, ℕ, zero, suc, ◌+◌, ◌<◌, ◌≤◌, not-suc-le-zero, le_of_suc-le-suc, arith, add-one, length, take, drop, get_or, length-append, take-suc}
+use lib.Seq.{drop-append-add}
 use Rattle.octets.specs.Lists.{any, same, joined}
-use Rattle.octets.specs.Checked.{pass}
+use Rattle.std.specs.Prelude.{Ok}
 use Rattle.octets.proofs.Checks.{true_false, known}
 use Rattle.octets.proofs.Lists.{same_eq, same_refl, same_sym, any_cons, any_stops}
 use Rattle.octets.proofs.Elements.{none_at}
@@ -22,11 +14,11 @@ use Rattle.strings.proofs.Ends.{NoZero, up_to_ended}
 
 -- ---- the str section
 pub str_of_none : str_of [] ≡ []
-unfolding str_of joined
+unfolding str_of
 str_of_none = refl
 
 pub str_of_cons : (s : List ℕ) (table : List (List ℕ)) → str_of (s ∷ table) ≡ ended s ++ str_of table
-unfolding str_of joined
+unfolding str_of
 str_of_cons s table = refl
 
 pub str_of_append : (table more : List (List ℕ)) → str_of (table ++ more) ≡ str_of table ++ str_of more
@@ -77,13 +69,12 @@ offset_next t ts s e = rw (offset_in, e)
 
 -- where a string is none of a table's, its place is behind them all
 pub offset_absent : (table : List (List ℕ)) (s : List ℕ) → is_in table s ≡ false → offset_in table s ≡ length (str_of table)
-unfolding offset_in any
+unfolding offset_in
 offset_absent [] s e = rw str_of_none
 offset_absent (t ∷ ts) s e = grind (arith, any_stops, any_cons, offset_next, length_str_of_cons, offset_absent ts s)
 
 -- a string that is there ends, with its zero, in the section
 pub offset_fits : (table : List (List ℕ)) (s : List ℕ) → is_in table s ≡ true → offset_in table s + length s + 1 ≤ length (str_of table)
-unfolding any
 offset_fits [] s e = absurd (true_false e refl)
 offset_fits (t ∷ ts) s e =
     ⊎_elim (λ p. rw (offset_here t ts s p, length_str_of_cons t ts, same_eq s t p) (omega arith))
@@ -94,7 +85,7 @@ offset_le table s = ⊎_elim (λ p. omega (arith, offset_fits table s p)) (λ p.
 
 -- the string with its zero stands at its offset
 pub str_of_at : (table : List (List ℕ)) (s : List ℕ) → is_in table s ≡ true → (q : List ℕ) × (drop (offset_in table s) (str_of table) ≡ s ++ (0 ∷ q))
-unfolding any ended
+unfolding ended
 str_of_at [] s e = absurd (true_false e refl)
 str_of_at (t ∷ ts) s e =
     ⊎_elim (λ p. (str_of ts, rw (offset_here t ts s p, str_of_cons t ts, ← same_eq s t p) (append_assoc s (0 ∷ []) (str_of ts))))
@@ -102,7 +93,7 @@ str_of_at (t ∷ ts) s e =
     let r = str_of_at ts s (sym (any_cons (same s) t ts p) ∙ e) in
     (r.0, rw (offset_next t ts s p, str_of_cons t ts, ← length_ended t) (drop-append-add (ended t) (str_of ts) (offset_in ts s) ∙ r.1))) (known (same s t))
 
-pub string_in_str_of : (n : ℕ) (table : List (List ℕ)) (s : List ℕ) → is_in table s ≡ true → NoZero s → string_at n (str_of table) (offset_in table s) ≡ pass s
+pub string_in_str_of : (n : ℕ) (table : List (List ℕ)) (s : List ℕ) → is_in table s ≡ true → NoZero s → string_at n (str_of table) (offset_in table s) ≡ Ok s
 unfolding string_at
 string_in_str_of n table s e z = let r = str_of_at table s e in ap (up_to_zero n) r.1 ∙ up_to_ended n s r.0 z
 
@@ -120,7 +111,6 @@ str_of_counts (s ∷ table) = rw (length_str_of_cons s table) (omega (arith, str
 
 -- ---- a table that grows at its end: what was found early stays
 offset_append : (table more : List (List ℕ)) (s : List ℕ) → is_in table s ≡ true → offset_in (table ++ more) s ≡ offset_in table s
-unfolding any
 offset_append [] more s e = absurd (true_false e refl)
 offset_append (t ∷ ts) more s e = grind (arith, offset_here, offset_next, any_cons, offset_append ts more s)
 

@@ -1,13 +1,7 @@
 -- Entries of a part of a str_offsets section, and the numbers that stand for them in the section written.
-use mathlib.Core.Path.{◌≡◌, sym, ap, ◌∙◌}
-use mathlib.Core.Bool.{true}
-use mathlib.Core.List.{List, []}
-use Prim.Native.Nat.{ℕ, ◌+◌, ◌*◌, ◌-◌, ◌^◌, ◌<◌, ◌≤◌}
-use native.Mathlib.Nat.{le-div_iff_mul-le, mul_comm, mul-add}
-use native.Mathlib.Omega.{arith}
-use lib.ListN.{length, get_or}
+use Rattle.std.proofs.Common.{◌≡◌, sym, ap, ◌∙◌, true, List, [], ℕ, ◌+◌, ◌*◌, ◌-◌, ◌^◌, ◌<◌, ◌≤◌, le-div_iff_mul-le, mul_comm, mul-add, arith, length, get_or}
 use Rattle.octets.specs.Octets.{part, number_at}
-use Rattle.octets.specs.Checked.{pass}
+use Rattle.std.specs.Prelude.{Ok}
 use Rattle.octets.proofs.Parts.{length_part}
 use Rattle.octets.proofs.Numbers.{number_at_part}
 use Rattle.bundle.specs.Encoding.{Encoding}
@@ -40,12 +34,12 @@ module _ (e : Encoding) (ok : Sound e) (s : List ℕ) (m size : ℕ) (fits : e.w
     part_entry = grind (arith, entries_in_at, number_at_part, entry_ends, part_entry_within)
 
 -- ---- the section written
-module _ (e : Encoding) (ok : Sound e) (table : List (List ℕ)) (s str : List ℕ) (used : List (List ℕ)) (whole : Whole e s) (q : strings_at str (entries_in e s) ≡ pass used)
+module _ (e : Encoding) (ok : Sound e) (table : List (List ℕ)) (s str : List ℕ) (used : List (List ℕ)) (whole : Whole e s) (q : strings_at str (entries_in e s) ≡ Ok used)
     (small : length (str_of table) < 256 ^ e.width) (k : ℕ) (h : k < length (entries_in e s)) where
   count : length used ≡ length (entries_in e s)
   count = length_strings_at str (entries_in e s) used q
 
-  pub entry_string : string_at 9 str (get_or (entries_in e s) k 0) ≡ pass (get_or used k [])
+  pub entry_string : string_at 9 str (get_or (entries_in e s) k 0) ≡ Ok (get_or used k [])
   entry_string = strings_at_at str (entries_in e s) used k q h
 
   pub remapped_number : number_at e.big e.width (remapped e table s used) (header_size e + e.width * k) ≡ offset_in table (get_or used k [])
@@ -56,7 +50,7 @@ module _ (e : Encoding) (ok : Sound e) (table : List (List ℕ)) (s str : List �
       sym (entries_in_at e r k within) ∙ ap (λ (z : List ℕ). get_or z k 0) there ∙ get_d_map (offset_in table) used k [] 0 (omega (arith, count))
 
   pub remapped_names : (n : ℕ) → is_in table (get_or used k []) ≡ true
-      → string_at n (str_of table) (number_at e.big e.width (remapped e table s used) (header_size e + e.width * k)) ≡ pass (get_or used k [])
+      → string_at n (str_of table) (number_at e.big e.width (remapped e table s used) (header_size e + e.width * k)) ≡ Ok (get_or used k [])
   remapped_names n there =
       ap (string_at n (str_of table)) remapped_number
       ∙ string_in_str_of n table (get_or used k []) there (string_at_is 9 str (get_or (entries_in e s) k 0) (get_or used k []) entry_string).clean

@@ -1,11 +1,8 @@
 -- Strings of entries by their places in the bundle.
-use mathlib.Core.Path.{◌≡◌, refl, sym, ap₂, ◌∙◌}
-use mathlib.Core.List.{List}
-use Prim.Native.Nat.{ℕ, ◌+◌, ◌<◌, ◌≤◌}
-use native.Mathlib.Omega.{arith}
-use lib.ListN.{length}
+use Rattle.std.proofs.Common.{◌≡◌, refl, sym, ap₂, ◌∙◌, List, ℕ, ◌+◌, ◌<◌, ◌≤◌, arith, length}
 use Rattle.octets.specs.Octets.{part}
-use Rattle.octets.specs.Checked.{Check, pass, refuse, mapped}
+use Rattle.std.specs.Prelude.{Result, Ok, Err}
+use Rattle.octets.specs.Checked.{mapped}
 use Rattle.octets.proofs.Checks.{pass_inj, pass_refuse}
 use Rattle.octets.proofs.Parts.{part_part, length_part}
 use Rattle.strings.specs.Strings.{string_at}
@@ -20,32 +17,32 @@ unfolding bytes_at
 length_bytes_at b p h = length_part b p.start p.size h
 
 -- a string found in bytes that start somewhere else
-place_on : (start offset : ℕ) (p : Place) (m : Check (List ℕ)) → pass p ≡ mapped (string_place offset) m
-    → pass (record { start = start + p.start; size = p.size }) ≡ mapped (string_place (start + offset)) m
+place_on : (start offset : ℕ) (p : Place) (m : Result (List ℕ) ℕ) → Ok p ≡ mapped (string_place offset) m
+    → Ok (record { start = start + p.start; size = p.size }) ≡ mapped (string_place (start + offset)) m
 unfolding mapped
 place_on start offset p m e = grind arith
 
 module _ (b : List ℕ) (strings : Place) (offset : ℕ) where
-  pub place_moved : (p : Place) → pass p ≡ mapped (string_place offset) (string_at 9 (bytes_at b strings) offset)
-      → pass (record { start = strings.start + p.start; size = p.size }) ≡ mapped (string_place (strings.start + offset)) (string_at 9 (bytes_at b strings) offset)
+  pub place_moved : (p : Place) → Ok p ≡ mapped (string_place offset) (string_at 9 (bytes_at b strings) offset)
+      → Ok (record { start = strings.start + p.start; size = p.size }) ≡ mapped (string_place (strings.start + offset)) (string_at 9 (bytes_at b strings) offset)
   place_moved p e = place_on strings.start offset p (string_at 9 (bytes_at b strings) offset) e
 
   -- and none found there
-  pub none_moved : refuse 9 ≡ mapped (string_place offset) (string_at 9 (bytes_at b strings) offset) → refuse 9 ≡ mapped (string_place (strings.start + offset)) (string_at 9 (bytes_at b strings) offset)
+  pub none_moved : Err 9 ≡ mapped (string_place offset) (string_at 9 (bytes_at b strings) offset) → Err 9 ≡ mapped (string_place (strings.start + offset)) (string_at 9 (bytes_at b strings) offset)
   unfolding mapped
   none_moved e = rw (place_missing 9 offset (string_at 9 (bytes_at b strings) offset) e) refl
 
-  pub string_start : (p : Place) → Inside b strings → pass p ≡ mapped (string_place offset) (string_at 9 (bytes_at b strings) offset) → strings.start + p.start ≤ length b
+  pub string_start : (p : Place) → Inside b strings → Ok p ≡ mapped (string_place offset) (string_at 9 (bytes_at b strings) offset) → strings.start + p.start ≤ length b
   string_start p h g = let t = place_found p offset (string_at 9 (bytes_at b strings) offset) g in omega (arith, (string_at_is 9 (bytes_at b strings) offset t.0 t.1).within, length_bytes_at b strings h, t.2)
 
   -- what an answer says of the string
   pub record Named (p : Place) : Type 0 where
     pub string : List ℕ
-    pub named : string_at 9 (bytes_at b strings) offset ≡ pass string
+    pub named : string_at 9 (bytes_at b strings) offset ≡ Ok string
     pub fits : Inside b p
     pub bytes : bytes_at b p ≡ string
 
-  pub string_named : (p : Place) → Inside b strings → pass p ≡ mapped (string_place (strings.start + offset)) (string_at 9 (bytes_at b strings) offset) → Named p
+  pub string_named : (p : Place) → Inside b strings → Ok p ≡ mapped (string_place (strings.start + offset)) (string_at 9 (bytes_at b strings) offset) → Named p
   unfolding bytes_at
   string_named p h g =
       let t = place_found p (strings.start + offset) (string_at 9 (bytes_at b strings) offset) g in
@@ -60,12 +57,12 @@ module _ (b : List ℕ) (strings : Place) (offset : ℕ) where
       }
 
   -- a string that starts there is read there
-  pub string_there : (s : List ℕ) → string_at 9 (bytes_at b strings) offset ≡ pass s → refuse 9 ≡ mapped (string_place (strings.start + offset)) (string_at 9 (bytes_at b strings) offset) → ⊥
+  pub string_there : (s : List ℕ) → string_at 9 (bytes_at b strings) offset ≡ Ok s → Err 9 ≡ mapped (string_place (strings.start + offset)) (string_at 9 (bytes_at b strings) offset) → ⊥
   string_there s e g = pass_refuse s 9 (sym e ∙ place_missing 9 (strings.start + offset) (string_at 9 (bytes_at b strings) offset) g)
 
-  pub string_bytes : (s : List ℕ) (p : Place) → string_at 9 (bytes_at b strings) offset ≡ pass s → Named p → bytes_at b p ≡ s
+  pub string_bytes : (s : List ℕ) (p : Place) → string_at 9 (bytes_at b strings) offset ≡ Ok s → Named p → bytes_at b p ≡ s
   string_bytes s p e n = n.bytes ∙ pass_inj (sym n.named ∙ e)
 
   -- its memory is at hand
-  pub string_within : (s : List ℕ) (room : ℕ) → Inside b strings → strings.size ≤ room → string_at 9 (bytes_at b strings) offset ≡ pass s → offset < room
+  pub string_within : (s : List ℕ) (room : ℕ) → Inside b strings → strings.size ≤ room → string_at 9 (bytes_at b strings) offset ≡ Ok s → offset < room
   string_within s room h l e = omega (arith, (string_at_is 9 (bytes_at b strings) offset s e).within, length_bytes_at b strings h)

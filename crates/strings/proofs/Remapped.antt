@@ -1,13 +1,6 @@
 -- Laws of the str_offsets section that is written: as long as the one it stands for, and its entries are the new offsets.
 use Rattle.std.proofs.lemmas.Grind.{common_steps}
-use Rattle.std.proofs.Common.{rules}
-use mathlib.Core.Path.{◌≡◌, refl, ap}
-use mathlib.Core.List.{List, [], ◌∷◌, map}
-use Prim.Native.Nat.{ℕ, zero, suc, ◌^◌, ◌<◌, ◌≤◌}
-use native.Mathlib.Nat.{not-suc-le-zero, le_of_suc-le-suc}
-use native.Mathlib.Omega.{arith}
-use lib.ListN.{length, take, get_or, length-append}
-use lib.Seq.{length-take-le, take_at}
+use Rattle.std.proofs.Common.{rules, ◌≡◌, refl, ap, List, [], ◌∷◌, map, ℕ, zero, suc, ◌^◌, ◌<◌, ◌≤◌, not-suc-le-zero, le_of_suc-le-suc, arith, length, take, get_or, length-append, length-take-le, take_at}
 use Rattle.octets.specs.Octets.{numbers_of}
 use Rattle.octets.proofs.Tables.{length_numbers_of, numbers_in_numbers_of}
 use Rattle.bundle.specs.Encoding.{Encoding}

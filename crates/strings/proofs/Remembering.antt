@@ -1,18 +1,9 @@
 -- What is remembered of an object's str by a string's start: nothing at first, and one place more.
-use mathlib.Core.Path.{◌≡◌, refl, sym, ap, ◌∙◌}
-use mathlib.Core.Logic.{⊎_elim}
-use mathlib.Core.Bool.{true, false}
-use mathlib.Core.List.{List, [], ◌∷◌, ◌++◌}
-use Prim.Native.Nat.{ℕ, zero, suc, ◌+◌, ◌-◌, ◌<◌, ◌≤◌, ◌^◌}
-use native.Mathlib.Nat.{not-suc-le-zero, le_of_suc-le-suc}
-use native.Mathlib.Omega.{arith}
-use Rattle.std.specs.Prelude.{Some, None}
-use lib.Dec.{eqb}
-use lib.ListN.{length, take, drop, get_or, length-drop}
-use lib.Seq.{get_or-drop, length-take-le}
-use borrow.Author.Tests.{eqb-true, eqb-false}
+use Rattle.std.proofs.Common.{◌≡◌, refl, sym, ap, ◌∙◌, ⊎_elim, true, false, List, [], ◌∷◌, ◌++◌, ℕ, zero, suc, ◌+◌, ◌-◌, ◌<◌, ◌≤◌, ◌^◌, not-suc-le-zero, le_of_suc-le-suc, arith, eqb, length, take, drop, get_or, length-drop, get_or-drop, length-take-le, eqb-true}
+use Rattle.std.specs.Prelude.{Some, None, Result, Ok, Err}
+use borrow.Author.Tests.{eqb-false}
 use Rattle.octets.specs.Octets.{placed, zeros}
-use Rattle.octets.specs.Checked.{Check, pass, refuse, mapped}
+use Rattle.octets.specs.Checked.{mapped}
 use Rattle.octets.proofs.Checks.{known, then_pass, pass_inj, true_false}
 use Rattle.octets.proofs.Placed.{length_zeros, get_d_zeros}
 use Rattle.octets.proofs.Regions.{get_d_placed, get_d_before, get_d_behind}
@@ -56,7 +47,7 @@ module _ (memo x : List ℕ) (at v : ℕ) (h : at < length memo) (e : x ≡ plac
   word_old o p = grind (arith, get_d_before, get_d_behind)
 
   -- one word more
-  remembered_more : (str : List ℕ) (told : List ℕ → ℕ → Type 0) (s : List ℕ) → Remembered str told memo → string_at 9 str at ≡ pass s → told s v → Remembered str told x
+  remembered_more : (str : List ℕ) (told : List ℕ → ℕ → Type 0) (s : List ℕ) → Remembered str told memo → string_at 9 str at ≡ Ok s → told s v → Remembered str told x
   remembered_more str told s r g t = grind (arith, word_new, word_old)
 
 -- a table that grows keeps what it has
@@ -65,7 +56,7 @@ unfolding place_is
 remembered_put str table s memo r = grind (arith, put_keeps, offset_keeps)
 
 -- what a word that is not 0 tells of the string that starts there
-pub known_place : (str : List ℕ) (table : List (List ℕ)) (s memo : List ℕ) (o v : ℕ) → Remembered str (place_is table) memo → string_at 9 str o ≡ pass s → v ≡ get_or memo o 0 → (v ≡ 0 → ⊥)
+pub known_place : (str : List ℕ) (table : List (List ℕ)) (s memo : List ℕ) (o v : ℕ) → Remembered str (place_is table) memo → string_at 9 str o ≡ Ok s → v ≡ get_or memo o 0 → (v ≡ 0 → ⊥)
     → (is_in table s ≡ true) × (v - 1 ≡ offset_in table s)
 unfolding place_is
 known_place str table s memo o v m e q u =
@@ -86,17 +77,17 @@ module _ (b : List ℕ) (strings : Place) (region memo : List ℕ) (t : StringTa
   string_reached = omega (arith, string_within b strings o a.string strings.size a.inside (omega arith) a.starts, a.enough, a.inside, a.limit)
 
   -- the string found there
-  module _ (p : Place) (found : pass p ≡ mapped (string_place (strings.start + o)) (string_at 9 (bytes_at b strings) o)) where
+  module _ (p : Place) (found : Ok p ≡ mapped (string_place (strings.start + o)) (string_at 9 (bytes_at b strings) o)) where
     named : Named b strings o p
     named = string_named b strings o p a.inside found
 
     pub string_room : ((used : List (List ℕ)) × Putting b strings region memo t used) → Insertable b p region t × ((used : List (List ℕ)) × Kept b region t used)
     string_room k = (record { limit = a.limit; fits = named.fits; room = a.room }, (k.0, k.1.kept))
 
-  pub string_none : refuse 9 ≡ mapped (string_place (strings.start + o)) (string_at 9 (bytes_at b strings) o) → ⊥
+  pub string_none : Err 9 ≡ mapped (string_place (strings.start + o)) (string_at 9 (bytes_at b strings) o) → ⊥
   string_none e = string_there b strings o a.string a.starts e
 
-  module _ (f : t.over ≡ false) (used : List (List ℕ)) (s : List ℕ) (k : Putting b strings region memo t used) (e : string_at 9 (bytes_at b strings) o ≡ pass s) (y : List ℕ) where
+  module _ (f : t.over ≡ false) (used : List (List ℕ)) (s : List ℕ) (k : Putting b strings region memo t used) (e : string_at 9 (bytes_at b strings) o ≡ Ok s) (y : List ℕ) where
     grown : Remembered (bytes_at b strings) (place_is (first_uses (used ++ (s ∷ [])))) memo
     grown = rw (first_uses_snoc used s) (remembered_put (bytes_at b strings) (first_uses used) s memo (k.memory f))
 
@@ -108,7 +99,7 @@ module _ (b : List ℕ) (strings : Place) (region memo : List ℕ) (t : StringTa
         let put = put_again b region t used k.kept f y s (v - 1) r m.0 (roomy_places region t a.room) m.1 is g in
         record { kept = put.kept; memory = λ _. grown }
 
-    module _ (p : Place) (found : pass p ≡ mapped (string_place (strings.start + o)) (string_at 9 (bytes_at b strings) o)) (r : StringTable) where
+    module _ (p : Place) (found : Ok p ≡ mapped (string_place (strings.start + o)) (string_at 9 (bytes_at b strings) o)) (r : StringTable) where
       bytes : bytes_at b p ≡ s
       bytes = string_bytes b strings o s p e (named p found)
 
@@ -130,17 +121,17 @@ module _ (b : List ℕ) (strings : Place) (region memo : List ℕ) (t : StringTa
       put_over is = let put = rw bytes at (is used k.kept) in record { kept = put.kept; memory = λ g. absurd (true_false put.stands g) }
 
 -- ---- strings start up to the last zero byte, and nowhere behind it
-up_to_has : (n : ℕ) (s : List ℕ) (i : ℕ) → i < length s → get_or s i 0 ≡ 0 → (t : List ℕ) × (up_to_zero n s ≡ pass t)
+up_to_has : (n : ℕ) (s : List ℕ) (i : ℕ) → i < length s → get_or s i 0 ≡ 0 → (t : List ℕ) × (up_to_zero n s ≡ Ok t)
 up_to_has n [] i h e = absurd (not-suc-le-zero h)
 up_to_has n (b ∷ s) zero h e = ([], up_to_zero_law n b s e)
 up_to_has n (b ∷ s) (suc i) h e =
     ⊎_elim (λ p. ([], up_to_zero_law n b s (eqb-true b 0 p)))
     (λ p.
     let r = up_to_has n s i (le_of_suc-le-suc h) e in
-    (b ∷ r.0, up_to_more n b s (eqb-false b 0 p) ∙ then_pass (up_to_zero n s) (λ u. pass (b ∷ u)) r.0 r.1)) (known (eqb b 0))
+    (b ∷ r.0, up_to_more n b s (eqb-false b 0 p) ∙ then_pass (up_to_zero n s) (λ u. Ok (b ∷ u)) r.0 r.1)) (known (eqb b 0))
 
 module _ (n : ℕ) (str : List ℕ) (end : ℕ) (z : LastZero str end) (o : ℕ) where
-  pub last_starts : o < end → (s : List ℕ) × (string_at n str o ≡ pass s)
+  pub last_starts : o < end → (s : List ℕ) × (string_at n str o ≡ Ok s)
   unfolding string_at
   last_starts h =
       let i = end - 1 in
@@ -148,9 +139,9 @@ module _ (n : ℕ) (str : List ℕ) (end : ℕ) (z : LastZero str end) (o : ℕ)
       up_to_has n (drop o str) (i - o) (omega (arith, length-drop o str, z.within))
       (get_or-drop o str (i - o) 0 ∙ ap (λ (j : ℕ). get_or str j 0) m ∙ z.last i (omega arith))
 
-  none_behind : (c : Check (List ℕ)) → string_at n str o ≡ c → end ≤ o → string_at n str o ≡ refuse n
-  none_behind (pass t) e h = let k = string_at_is n str o t e in absurd (z.behind (o + length t) (omega arith) k.within k.zero_behind)
-  none_behind (refuse m) e h = e ∙ ap refuse (sym (string_at_refused n m str o e))
+  none_behind : (c : Result (List ℕ) ℕ) → string_at n str o ≡ c → end ≤ o → string_at n str o ≡ Err n
+  none_behind (Ok t) e h = let k = string_at_is n str o t e in absurd (z.behind (o + length t) (omega arith) k.within k.zero_behind)
+  none_behind (Err m) e h = e ∙ ap Err (sym (string_at_refused n m str o e))
 
-  pub last_behind : end ≤ o → string_at n str o ≡ refuse n
+  pub last_behind : end ≤ o → string_at n str o ≡ Err n
   last_behind h = none_behind (string_at n str o) refl h

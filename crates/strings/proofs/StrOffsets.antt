@@ -1,16 +1,10 @@
 -- Laws of a str_offsets section: its entries, its length, and what is read back of the one that is written.
-use mathlib.Core.Path.{◌≡◌, refl, sym, ◌∙◌}
-use mathlib.Core.Logic.{◌⊎◌, inl, inr, ⊎_elim}
-use mathlib.Core.Bool.{Bool, true, false, ◌&&◌, ◌||◌}
-use mathlib.Core.List.{List}
-use Prim.Native.Nat.{ℕ, ◌+◌, ◌*◌, ◌-◌, ◌/◌, ◌%◌, ◌<◌, ◌≤◌}
-use native.Mathlib.Nat.{mul-suc, mul-div-le, mul-le-mul_left, mul-le-mul_right}
-use native.Mathlib.Omega.{arith}
-use lib.Dec.{eqb, leb}
-use lib.ListN.{length, drop, get_or}
-use borrow.Author.Tests.{leb-true, eqb-true, eq-eqb, ne_eqb, eqb-false}
+use Rattle.std.proofs.Common.{◌≡◌, refl, sym, ◌∙◌, ◌⊎◌, inl, inr, ⊎_elim, Bool, true, false, ◌&&◌, ◌||◌, List, ℕ, ◌+◌, ◌*◌, ◌-◌, ◌/◌, ◌%◌, ◌<◌, ◌≤◌, mul-suc, mul-le-mul_left, mul-le-mul_right, arith, eqb, leb, length, drop, get_or, leb-true, eqb-true, eq-eqb, ne_eqb}
+use native.Mathlib.Nat.{mul-div-le}
+use borrow.Author.Tests.{eqb-false}
 use Rattle.octets.specs.Octets.{number_at}
-use Rattle.octets.specs.Checked.{pass, refuse, ◌>>=◌, require}
+use Rattle.std.specs.Prelude.{Ok, Err}
+use Rattle.octets.specs.Checked.{◌>>=◌, require}
 use Rattle.octets.proofs.Checks.{pass_inj, fails, passes, require_pass, and_left, and_right}
 use Rattle.octets.proofs.Numbers.{number_at_drop}
 use Rattle.octets.proofs.Tables.{length_numbers_in, numbers_in_at}
@@ -97,26 +91,26 @@ pub record Whole (e : Encoding) (s : List ℕ) : Type 0 where
   pub header : header_true e s ≡ true
   pub even : (length s - header_size e) % e.width ≡ 0
 
-pub entries_whole : (e : Encoding) (s ns : List ℕ) → entries_of e s ≡ pass ns → Whole e s × (ns ≡ entries_in e s)
+pub entries_whole : (e : Encoding) (s ns : List ℕ) → entries_of e s ≡ Ok ns → Whole e s × (ns ≡ entries_in e s)
 unfolding entries_of
 entries_whole e s ns p =
-    let a = require_pass (header_true e s) 8 (λ _. require (eqb ((length s - header_size e) % e.width) 0) 8 >>= (λ _. pass (entries_in e s))) ns p in
-    let b = require_pass (eqb ((length s - header_size e) % e.width) 0) 8 (λ _. pass (entries_in e s)) ns a.1 in
+    let a = require_pass (header_true e s) 8 (λ _. require (eqb ((length s - header_size e) % e.width) 0) 8 >>= (λ _. Ok (entries_in e s))) ns p in
+    let b = require_pass (eqb ((length s - header_size e) % e.width) 0) 8 (λ _. Ok (entries_in e s)) ns a.1 in
     (record { header = a.0; even = eqb-true _ _ b.0 }, pass_inj (sym b.1))
 
-pub whole_entries : (e : Encoding) (s : List ℕ) → Whole e s → entries_of e s ≡ pass (entries_in e s)
+pub whole_entries : (e : Encoding) (s : List ℕ) → Whole e s → entries_of e s ≡ Ok (entries_in e s)
 unfolding entries_of
 whole_entries e s w = grind (arith, passes)
 
-pub entries_false : (e : Encoding) (s : List ℕ) → header_true e s ≡ false → entries_of e s ≡ refuse 8
+pub entries_false : (e : Encoding) (s : List ℕ) → header_true e s ≡ false → entries_of e s ≡ Err 8
 unfolding entries_of
-entries_false e s h = fails (header_true e s) 8 (λ _. require (eqb ((length s - header_size e) % e.width) 0) 8 >>= (λ _. pass (entries_in e s))) h
+entries_false e s h = fails (header_true e s) 8 (λ _. require (eqb ((length s - header_size e) % e.width) 0) 8 >>= (λ _. Ok (entries_in e s))) h
 
-pub entries_odd : (e : Encoding) (s : List ℕ) → header_true e s ≡ true → ((length s - header_size e) % e.width ≡ 0 → ⊥) → entries_of e s ≡ refuse 8
+pub entries_odd : (e : Encoding) (s : List ℕ) → header_true e s ≡ true → ((length s - header_size e) % e.width ≡ 0 → ⊥) → entries_of e s ≡ Err 8
 unfolding entries_of
 entries_odd e s h g = grind (arith, passes, fails)
 
-pub entries_refused : (e : Encoding) (s : List ℕ) (n : ℕ) → entries_of e s ≡ refuse n → n ≡ 8
+pub entries_refused : (e : Encoding) (s : List ℕ) (n : ℕ) → entries_of e s ≡ Err n → n ≡ 8
 entries_refused e s n p = grind (arith, whole_entries, entries_odd, entries_false, eqb-true, eqb-false)
 
 -- header and entries are the section

@@ -1,11 +1,6 @@
 -- The str section written from the table of kept strings.
 use Rattle.std.proofs.lemmas.Grind.{common_steps}
-use mathlib.Core.Path.{◌≡◌, sym, ap, ◌∙◌}
-use mathlib.Core.List.{List, [], ◌∷◌}
-use Prim.Native.Nat.{ℕ, ◌+◌, ◌*◌, ◌<◌, ◌≤◌}
-use native.Mathlib.Omega.{arith}
-use lib.ListN.{length, take, get_or}
-use lib.Seq.{ext_get_or, take_all}
+use Rattle.std.proofs.Common.{◌≡◌, sym, ap, ◌∙◌, List, [], ◌∷◌, ℕ, ◌+◌, ◌*◌, ◌<◌, ◌≤◌, arith, length, take, get_or, ext_get_or, take_all}
 use Rattle.octets.specs.Octets.{placed}
 use Rattle.octets.proofs.Placed.{placed_none, placed_placed}
 use Rattle.strings.specs.Strings.{ended, str_of}

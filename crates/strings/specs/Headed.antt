@@ -1,11 +1,11 @@
 -- A str_offsets section piece by piece, as code walks it: in version 5 each piece has its own header, which states how long it is; in version 4 the section
 -- is one piece. Nothing here need be believed: laws say that the pieces which 8 let pass are these.
-use Rattle.std.specs.Prelude.{◌≡◌, true, false, List, [], ◌∷◌, ◌++◌, ℕ, ◌+◌, ◌*◌, ◌/◌, ◌<◌, ◌≤◌, ◌^◌, length, take, drop, Result, ◌==◌, if◌then◌else◌}
+use Rattle.std.specs.Prelude.{◌≡◌, true, false, List, [], ◌∷◌, ◌++◌, ℕ, ◌+◌, ◌*◌, ◌/◌, ◌<◌, ◌≤◌, ◌^◌, length, take, drop, Result, ◌==◌, if◌then◌else◌, Ok, Err}
 use Rattle.numbers.specs.Tables.{dwarf5}
 use Rattle.numbers.specs.Limits.{string_words}
 use Rattle.numbers.specs.declared.refusals.Refusal.{Refusal}
 use Rattle.octets.specs.Octets.{numbers_of, placed}
-use Rattle.octets.specs.Checked.{Check, pass, refuse, ◌>>=◌}
+use Rattle.octets.specs.Checked.{◌>>=◌}
 use Rattle.bundle.specs.Encoding.{Encoding}
 use Rattle.bundle.specs.InitialLength.{length_field, length_stated}
 use Rattle.bundle.specs.Encoded.{encoding_is}
@@ -23,12 +23,12 @@ piece_size e s = if e.version == dwarf5 then length_field e + length_stated e s 
 unfoldable pub Headed : Encoding → List ℕ → List (List ℕ) → Type 0
 Headed e s [] = s ≡ []
 Headed e s (p ∷ ps) =
-    (rest : List ℕ) × (s ≡ p ++ rest) × (1 ≤ length p) × (piece_size e s ≡ length p) × (entries_of e p ≡ pass (entries_in e p)) × Headed e rest ps
+    (rest : List ℕ) × (s ≡ p ++ rest) × (1 ≤ length p) × (piece_size e s ≡ length p) × (entries_of e p ≡ Ok (entries_in e p)) × Headed e rest ps
 
 -- the strings that their entries name
-unfoldable pub strings_of_all : Encoding → List ℕ → List (List ℕ) → Check (List (List ℕ))
-strings_of_all e str [] = pass []
-strings_of_all e str (p ∷ ps) = strings_at str (entries_in e p) >>= λ us. (strings_of_all e str ps >>= λ vs. pass (us ++ vs))
+unfoldable pub strings_of_all : Encoding → List ℕ → List (List ℕ) → Result (List (List ℕ)) ℕ
+strings_of_all e str [] = Ok []
+strings_of_all e str (p ∷ ps) = strings_at str (entries_in e p) >>= λ us. (strings_of_all e str ps >>= λ vs. Ok (us ++ vs))
 
 -- an object's
 abbrev pub HeadedOf : StrOffsets → List ℕ → List (List ℕ) → Type 0
@@ -69,7 +69,7 @@ PiecesPutAsked b o last region memory t =
 -- ---- written
 -- the strings of a piece, none where 9 refuses them
 unfoldable pub used_of : Encoding → List ℕ → List ℕ → List (List ℕ)
-used_of e str p = elim (strings_at str (entries_in e p)) [ pass us ↦ us | refuse n ↦ [] ]
+used_of e str p = elim (strings_at str (entries_in e p)) [ Ok us ↦ us | Err n ↦ [] ]
 
 -- pieces by a table, one behind the other
 unfoldable pub remapped_pieces : Encoding → List (List ℕ) → List ℕ → List (List ℕ) → List ℕ

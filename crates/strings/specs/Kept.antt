@@ -4,7 +4,6 @@ use Rattle.numbers.specs.Limits.{section_limit, string_words}
 use Rattle.numbers.specs.Refused.{number_of}
 use Rattle.numbers.specs.declared.refusals.Refusal.{Refusal}
 use Rattle.octets.specs.Octets.{part, placed}
-use Rattle.octets.specs.Checked.{Check, pass, refuse}
 use Rattle.strings.specs.Strings.{first_uses, str_of, offset_in}
 use Rattle.strings.specs.Indexed.{room_of, Indexed, Distinct, EndsFree}
 use Rattle.strings.specs.declared.table.Place.{Place}
@@ -120,6 +119,6 @@ abbrev pub PutsNew : List ℕ → Place → ℕ → List ℕ → StringTable →
 PutsNew b p slot region t x u place = (used : List (List ℕ)) → Kept b region t used → NewAt b p region used slot → PutIs b x used (bytes_at b p) u place
 
 -- the strings of an object put behind those used before, or why not; t is the state after that
-abbrev pub AddedIs : List ℕ → List ℕ → List (List ℕ) → Check (List (List ℕ)) → StringTable → Result (Unit {0}) Refusal → Type 0
-AddedIs b region used strings t (Ok _) = (more : List (List ℕ)) × (strings ≡ pass more) × Kept b region t (used ++ more)
-AddedIs b region used strings t (Err r) = strings ≡ refuse (number_of r)
+abbrev pub AddedIs : List ℕ → List ℕ → List (List ℕ) → Result (List (List ℕ)) ℕ → StringTable → Result (Unit {0}) Refusal → Type 0
+AddedIs b region used strings t (Ok _) = (more : List (List ℕ)) × (strings ≡ Ok more) × Kept b region t (used ++ more)
+AddedIs b region used strings t (Err r) = strings ≡ Err (number_of r)

@@ -1,7 +1,6 @@
 -- An object's str_offsets and str as the code is handed them, and what callers have lent. Nothing here need be believed.
 use Rattle.std.specs.Prelude.{◌≡◌, List, [], ◌∷◌, ◌++◌, ℕ, ◌+◌, ◌*◌, ◌<◌, ◌≤◌, ◌^◌, length, Result, Ok, Err}
 use Rattle.numbers.specs.Limits.{string_words}
-use Rattle.octets.specs.Checked.{Check, pass, refuse}
 use Rattle.numbers.specs.Refusals.{no_string}
 use Rattle.numbers.specs.Refused.{number_of}
 use Rattle.numbers.specs.declared.refusals.Refusal.{Refusal}
@@ -17,7 +16,7 @@ use Rattle.strings.specs.declared.table.StringTable.{StringTable}
 abbrev pub entries_at : StrOffsets → List ℕ → List ℕ
 entries_at o b = entries_in (encoding_is o.encoding) (bytes_at b o.offsets)
 
-abbrev pub strings_of : StrOffsets → List ℕ → Check (List (List ℕ))
+abbrev pub strings_of : StrOffsets → List ℕ → Result (List (List ℕ)) ℕ
 strings_of o b = strings_at (bytes_at b o.strings) (entries_at o b)
 
 -- the strings that an object's entries name are put behind those used before, or 9
@@ -42,7 +41,7 @@ pub record Addable (b : List ℕ) (strings : Place) (offset words memory : ℕ) 
   pub enough : strings.size ≤ memory
   pub room : Roomy words t
   pub string : List ℕ
-  pub starts : string_at no_string (bytes_at b strings) offset ≡ pass string
+  pub starts : string_at no_string (bytes_at b strings) offset ≡ Ok string
 
 -- room for a row for each entry, and a word of memory for each byte of str
 pub record AllAddable (b : List ℕ) (o : StrOffsets) (words memory : ℕ) (t : StringTable) : Type 0 where
@@ -57,8 +56,8 @@ pub record AllAddable (b : List ℕ) (o : StrOffsets) (words memory : ℕ) (t : 
 -- the table and the memory after it
 abbrev pub AllPut : List ℕ → Place → List ℕ → List ℕ → List ℕ → StringTable → List (List ℕ) → StringTable → Result (Unit {0}) Refusal → Type 0
 AllPut b strings os x m t used u (Ok _) =
-    ((more : List (List ℕ)) × (strings_at (bytes_at b strings) os ≡ pass more) × Putting b strings x m u (used ++ more)) × (u.entries ≤ t.entries + length os)
-AllPut b strings os x m t used u (Err r) = strings_at (bytes_at b strings) os ≡ refuse (number_of r)
+    ((more : List (List ℕ)) × (strings_at (bytes_at b strings) os ≡ Ok more) × Putting b strings x m u (used ++ more)) × (u.entries ≤ t.entries + length os)
+AllPut b strings os x m t used u (Err r) = strings_at (bytes_at b strings) os ≡ Err (number_of r)
 
 -- the same for all strings that were used before
 abbrev pub AllPutTo : List ℕ → StrOffsets → List ℕ → List ℕ → StringTable → List ℕ → List ℕ → StringTable → Result (Unit {0}) Refusal → Type 0
@@ -67,5 +66,5 @@ AllPutTo b o region memory t x m u r = (used : List (List ℕ)) → Putting b o.
 -- the string that starts at an offset of str is put; x, m and u are the table, the memory and the state after that
 abbrev pub PutsString : List ℕ → Place → ℕ → List ℕ → List ℕ → StringTable → List ℕ → List ℕ → StringTable → Type 0
 PutsString b strings offset region memory t x m u =
-    (used : List (List ℕ)) (s : List ℕ) → Putting b strings region memory t used → string_at no_string (bytes_at b strings) offset ≡ pass s
+    (used : List (List ℕ)) (s : List ℕ) → Putting b strings region memory t used → string_at no_string (bytes_at b strings) offset ≡ Ok s
     → Putting b strings x m u (used ++ (s ∷ []))

@@ -1,8 +1,7 @@
 -- What is remembered of an object's str, by the start of a string: a word for each byte, 0 where nothing is known.
-use Rattle.std.specs.Prelude.{◌≡◌, true, false, List, ℕ, ◌+◌, ◌<◌, ◌≤◌, length, slice_index}
+use Rattle.std.specs.Prelude.{◌≡◌, true, false, List, ℕ, ◌+◌, ◌<◌, ◌≤◌, length, slice_index, Ok}
 use Rattle.numbers.specs.Refusals.{no_string}
 use Rattle.octets.specs.Lists.{any, same}
-use Rattle.octets.specs.Checked.{pass}
 use Rattle.strings.specs.Strings.{string_at, first_uses, offset_in}
 use Rattle.strings.specs.Kept.{Kept, bytes_at}
 use Rattle.strings.specs.declared.table.Place.{Place}
@@ -10,7 +9,7 @@ use Rattle.strings.specs.declared.table.StringTable.{StringTable}
 
 -- a word that is not 0 tells something of the string that starts there
 pub record Remembered (str : List ℕ) (told : List ℕ → ℕ → Type 0) (memo : List ℕ) : Type 0 where
-  pub known : (o : ℕ) → o < length str → (slice_index memo o ≡ 0 → ⊥) → (s : List ℕ) × (string_at no_string str o ≡ pass s) × told s (slice_index memo o)
+  pub known : (o : ℕ) → o < length str → (slice_index memo o ≡ 0 → ⊥) → (s : List ℕ) × (string_at no_string str o ≡ Ok s) × told s (slice_index memo o)
 
 -- the string is one of the table's, and the word is its place in the package's str, and one more
 unfoldable pub place_is : List (List ℕ) → List ℕ → ℕ → Type 0

@@ -1,10 +1,10 @@
 -- Strings reached by str_offsets, in order of first use (FORMAT 4).
-use Rattle.std.specs.Prelude.{Bool, true, false, ◌&&◌, ◌||◌, List, [], ◌∷◌, ◌++◌, map, ℕ, ◌+◌, ◌-◌, ◌/◌, ◌%◌, length, take, drop, ◌==◌, nat_le, if◌then◌else◌}
+use Rattle.std.specs.Prelude.{Bool, true, false, ◌&&◌, ◌||◌, List, [], ◌∷◌, ◌++◌, map, ℕ, ◌+◌, ◌-◌, ◌/◌, ◌%◌, length, take, drop, ◌==◌, nat_le, if◌then◌else◌, Result, Ok, Err}
 use Rattle.numbers.specs.Tables.{dwarf5}
 use Rattle.numbers.specs.Refusals.{bad_str_offsets, no_string}
 use Rattle.octets.specs.Octets.{number_at, numbers_in, numbers_of}
 use Rattle.octets.specs.Lists.{joined, any, same}
-use Rattle.octets.specs.Checked.{Check, pass, refuse, ◌>>=◌, require}
+use Rattle.octets.specs.Checked.{◌>>=◌, require}
 use Rattle.bundle.specs.Encoding.{Encoding}
 use Rattle.bundle.specs.InitialLength.{marked, length_field, length_stated}
 
@@ -25,25 +25,25 @@ unfoldable pub entries_in : Encoding → List ℕ → List ℕ
 entries_in e s = numbers_in e.big e.width ((length s - header_size e) / e.width) (drop (header_size e) s)
 
 -- 8: the header is true and whole entries follow
-unfoldable pub entries_of : Encoding → List ℕ → Check (List ℕ)
+unfoldable pub entries_of : Encoding → List ℕ → Result (List ℕ) ℕ
 entries_of e s = do
   _ ← require (header_true e s) bad_str_offsets
   _ ← require ((length s - header_size e) % e.width == 0) bad_str_offsets
-  pass (entries_in e s)
+  Ok (entries_in e s)
 
 -- the bytes up to a zero byte; the number where there is none
-unfoldable pub up_to_zero : ℕ → List ℕ → Check (List ℕ)
-up_to_zero n [] = refuse n
-up_to_zero n (b ∷ s) = if b == 0 then pass [] else up_to_zero n s >>= λ t. pass (b ∷ t)
+unfoldable pub up_to_zero : ℕ → List ℕ → Result (List ℕ) ℕ
+up_to_zero n [] = Err n
+up_to_zero n (b ∷ s) = if b == 0 then Ok [] else up_to_zero n s >>= λ t. Ok (b ∷ t)
 
 -- 9 (26 in a lookup): an entry names the bytes in str up to a zero byte; nothing stands at an offset beyond str
-unfoldable pub string_at : ℕ → List ℕ → ℕ → Check (List ℕ)
+unfoldable pub string_at : ℕ → List ℕ → ℕ → Result (List ℕ) ℕ
 string_at n str offset = up_to_zero n (drop offset str)
 
 -- the strings that entries name
-unfoldable pub strings_at : List ℕ → List ℕ → Check (List (List ℕ))
-strings_at str [] = pass []
-strings_at str (o ∷ os) = string_at no_string str o >>= λ s. (strings_at str os >>= λ ss. pass (s ∷ ss))
+unfoldable pub strings_at : List ℕ → List ℕ → Result (List (List ℕ)) ℕ
+strings_at str [] = Ok []
+strings_at str (o ∷ os) = string_at no_string str o >>= λ s. (strings_at str os >>= λ ss. Ok (s ∷ ss))
 
 -- the table of strings (FORMAT 4.3): a new string goes to the end, a known one changes nothing
 unfoldable pub put : List (List ℕ) → List ℕ → List (List ℕ)

@@ -1,15 +1,8 @@
 -- A unit read alone, from its own bytes, is the unit that is read from its section; and it is for the type table exactly if it is a type unit.
-use mathlib.Core.Path.{◌≡◌, sym, ap, ◌∙◌, subst}
-use mathlib.Core.Logic.{◌⊎◌, ◌↔◌, inl, inr, ⊎_elim}
-use mathlib.Core.Bool.{true, false, ◌||◌}
-use mathlib.Core.List.{List}
-use Prim.Native.Nat.{ℕ, ◌+◌, ◌≤◌}
-use native.Mathlib.Omega.{arith}
-use lib.Dec.{eqb, leb}
-use lib.ListN.{length, take}
-use lib.Seq.{length-take-le, take-take}
-use borrow.Author.Tests.{eqb-true, eqb-false}
-use Rattle.octets.specs.Checked.{pass, ◌>>=◌}
+use Rattle.std.proofs.Common.{◌≡◌, sym, ap, ◌∙◌, subst, ◌⊎◌, ◌↔◌, inl, inr, ⊎_elim, true, false, ◌||◌, List, ℕ, ◌+◌, ◌≤◌, arith, eqb, leb, length, take, length-take-le, take-take, eqb-true}
+use borrow.Author.Tests.{eqb-false}
+use Rattle.std.specs.Prelude.{Ok}
+use Rattle.octets.specs.Checked.{◌>>=◌}
 use Rattle.octets.proofs.Checks.{bind_pass, require_pass, pass_inj, pass_refuse, then_pass, known, or_cases}
 use Rattle.bundle.specs.Encoding.{Encoding}
 use Rattle.unit.specs.Root.{root_identity}
@@ -27,11 +20,11 @@ common_least : (e : Encoding) → length_field e ≤ common_size e
 unfolding common_size
 common_least e = ⊎_elim (λ (t : is_five e ≡ true). rw (common_size, t) (omega arith)) (λ (t : is_five e ≡ false). rw (common_size, t) (omega arith)) (known (is_five e))
 
-size_alone : (e : Encoding) (s : List ℕ) (n : ℕ) → length_field e ≤ n → n ≤ length s → unit_size e s ≡ pass n → unit_size e (take n s) ≡ pass n
+size_alone : (e : Encoding) (s : List ℕ) (n : ℕ) → length_field e ≤ n → n ≤ length s → unit_size e s ≡ Ok n → unit_size e (take n s) ≡ Ok n
 size_alone e s n h l q =
     size_same e n s (take n s) (sym (take-take n n s (omega arith))) h n (rw (length-take-le n s l) h) q
 
-own_inside : (e : Encoding) (s : List ℕ) (n : ℕ) → n ≤ length s → unit_size e s ≡ pass n → unit_inside e s ≡ pass n
+own_inside : (e : Encoding) (s : List ℕ) (n : ℕ) → n ≤ length s → unit_size e s ≡ Ok n → unit_inside e s ≡ Ok n
 unfolding unit_inside
 own_inside e s n l z = then_pass _ _ _ z ∙ fits_in s n l
 
@@ -43,10 +36,10 @@ own_behind e home a s n = rw (take-take n n s (omega arith))
 pub record Alone (e : Encoding) (home : ℕ) (abbreviations s : List ℕ) (r : UnitRead) : Type 0 where
   pub some : 4 ≤ r.size
   pub within : r.size ≤ length s
-  pub alone : unit_of e home abbreviations (take r.size s) ≡ pass r
+  pub alone : unit_of e home abbreviations (take r.size s) ≡ Ok r
   pub headed : Read e home abbreviations s r
 
-pub unit_alone : (e : Encoding) (home : ℕ) (abbreviations s : List ℕ) (r : UnitRead) → unit_of e home abbreviations s ≡ pass r → Alone e home abbreviations s r
+pub unit_alone : (e : Encoding) (home : ℕ) (abbreviations s : List ℕ) (r : UnitRead) → unit_of e home abbreviations s ≡ Ok r → Alone e home abbreviations s r
 unit_alone e home abbreviations s r q =
     let k = unit_read e home abbreviations s r q in
     let n = r.size in
@@ -61,12 +54,12 @@ unit_alone e home abbreviations s r q =
     }
 
 -- ---- the type table
-behind_table : (e : Encoding) (table n : ℕ) (u : List ℕ) (i : Identity) → behind_common e table n u ≡ pass i → i.table ≡ table
+behind_table : (e : Encoding) (table n : ℕ) (u : List ℕ) (i : Identity) → behind_common e table n u ≡ Ok i → i.table ≡ table
 unfolding behind_common
 behind_table e table n u i q = sym (ap (λ (j : Identity). j.table) (pass_inj (require_pass (leb (common_size e + n) (length u)) 11 _ i q).1))
 
-root_table : (e : Encoding) (table s : List ℕ) (i : Identity) → (root_identity e table s >>= λ x. pass (record { table = 1; identity = x })) ≡ pass i → i.table ≡ 1
-root_table e table s i q = sym (ap (λ (j : Identity). j.table) (pass_inj (bind_pass (root_identity e table s) (λ x. pass (record { table = 1; identity = x })) i q).2))
+root_table : (e : Encoding) (table s : List ℕ) (i : Identity) → (root_identity e table s >>= λ x. Ok (record { table = 1; identity = x })) ≡ Ok i → i.table ≡ 1
+root_table e table s i q = sym (ap (λ (j : Identity). j.table) (pass_inj (bind_pass (root_identity e table s) (λ x. Ok (record { table = 1; identity = x })) i q).2))
 
 -- a type unit in the type table, and another in the compilation table
 for_types : {P : Type 0} {t : ℕ} → t ≡ 2 → P → (t ≡ 2) ↔ P
@@ -82,7 +75,7 @@ module _ (e : Encoding) (home : ℕ) (homes : (home ≡ 1) ⊎ (home ≡ 2)) (fo
   abbrev type : ℕ
   type = unit_type e u
 
-  five_table : e.version ≡ 5 → identity_five e type u ≡ pass i → (i.table ≡ 2) ↔ IsTypeUnit e home u
+  five_table : e.version ≡ 5 → identity_five e type u ≡ Ok i → (i.table ≡ 2) ↔ IsTypeUnit e home u
   unfolding identity_five
   five_table v q = ⊎_elim
       (λ (t : (eqb type 4 || eqb type 5) ≡ true). not_for_types (behind_table e 1 8 u i (rw (identity_five, t) at q)) (λ p. ⊎_elim (λ h. four h v) (λ g. not_both t g.1) p))
@@ -99,7 +92,7 @@ module _ (e : Encoding) (home : ℕ) (homes : (home ≡ 1) ⊎ (home ≡ 2)) (fo
           (λ z. let y = eqb-true type 5 z in ⊎_elim (λ g. omega arith) (λ g. omega arith) c)
           (or_cases (eqb type 4) (eqb type 5) t)
 
-  four_table : (abbreviations : List ℕ) → (e.version ≡ 5 → ⊥) → identity_four e home abbreviations u ≡ pass i → (i.table ≡ 2) ↔ IsTypeUnit e home u
+  four_table : (abbreviations : List ℕ) → (e.version ≡ 5 → ⊥) → identity_four e home abbreviations u ≡ Ok i → (i.table ≡ 2) ↔ IsTypeUnit e home u
   unfolding identity_four
   four_table abbreviations v q = ⊎_elim
       (λ (t : eqb home 1 ≡ true). not_for_types (root_table e _ _ i (rw (identity_four, t) at q))
@@ -108,7 +101,7 @@ module _ (e : Encoding) (home : ℕ) (homes : (home ≡ 1) ⊎ (home ≡ 2)) (fo
       (inl (⊎_elim (λ h. absurd (eqb-false home 1 t h)) (λ h. h) homes)))
       (known (eqb home 1))
 
-  table_is : (abbreviations : List ℕ) → identity_of e home abbreviations u ≡ pass i → (i.table ≡ 2) ↔ IsTypeUnit e home u
+  table_is : (abbreviations : List ℕ) → identity_of e home abbreviations u ≡ Ok i → (i.table ≡ 2) ↔ IsTypeUnit e home u
   unfolding identity_of is_five unit_type
   table_is abbreviations q = ⊎_elim
       (λ (t : is_five e ≡ true). five_table (eqb-true e.version 5 t) (rw (identity_of, t) at q))

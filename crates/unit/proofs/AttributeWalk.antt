@@ -1,16 +1,7 @@
 -- The walk over a root's attributes, at its places in the bundle and in the unit.
-use mathlib.Core.Path.{◌≡◌, refl, sym, ap, ap₂, ◌∙◌}
-use mathlib.Core.Bool.{true}
-use mathlib.Core.List.{List, ◌++◌}
-use mathlib.Core.Option.{some, none}
-use mathlib.Core.Option as math
-use Prim.Native.Nat.{ℕ, ◌+◌, ◌-◌, ◌≤◌}
-use native.Mathlib.Omega.{arith}
-use lib.ListN.{length, take, drop, length-drop}
-use lib.Seq.{drop-drop}
-use Rattle.std.specs.Prelude.{Option, Some, None, Ok}
+use Rattle.std.proofs.Common.{◌≡◌, refl, sym, ap, ap₂, ◌∙◌, true, List, ◌++◌, ℕ, ◌+◌, ◌-◌, ◌≤◌, arith, length, take, drop, length-drop, drop-drop}
+use Rattle.std.specs.Prelude.{Option, Some, None, Ok, Result, Err}
 use Rattle.std.specs.Option.{is_some}
-use Rattle.octets.specs.Checked.{Check, pass, refuse}
 use Rattle.octets.proofs.Checks.{true_false}
 use Rattle.octets.proofs.Options.{some_none}
 use Rattle.bundle.specs.Encoding.{Encoding}
@@ -26,7 +17,7 @@ use Rattle.unit.proofs.Cuts.{between_length, between_drop, between_split}
 use Rattle.unit.proofs.Stepping.{only_step, from_not, from_end, from_on, unread, stepped_within}
 
 -- ---- the walk, as the code takes it
-is_stated : (seen : Option ℕ) → is_some seen ≡ true → seen_is seen ≡ none → ⊥
+is_stated : (seen : Option ℕ) → is_some seen ≡ true → seen_is seen ≡ None → ⊥
 is_stated (Some x) h g = some_none g
 is_stated None h g = true_false refl (sym h)
 
@@ -34,19 +25,19 @@ pub record Walked (e : Encoding) (b s : List ℕ) (place : Span) (w : Walk) : Ty
   pub table : Lies b w.left
   pub unit : w.at ≤ length s
   pub count : w.count ≤ w.left.at
-  pub same : identity_from e (span_bytes b w.left) (drop w.at s) (seen_is w.seen) ≡ identity_from e (span_bytes b place) s none
+  pub same : identity_from e (span_bytes b w.left) (drop w.at s) (seen_is w.seen) ≡ identity_from e (span_bytes b place) s None
 
 pub walked_none : (e : Encoding) (b s : List ℕ) (place : Span) → Lies b place → Walked e b s place (record { left = place; at = 0; seen = None; count = 0 })
 walked_none e b s place l = record { table = l; unit = omega arith; count = omega arith; same = refl }
 
 module _ (e : Encoding) (b s : List ℕ) (place : Span) (w : Walk) (k : Walked e b s place w) (n : ℕ) (h : n ≤ w.left.end - w.left.at) (q : Quiet (is_some w.seen) (take n (drop w.left.at b))) where
-  abbrev seen : math.Option ℕ
+  abbrev seen : Option ℕ
   seen = seen_is w.seen
 
   abbrev t : List ℕ
   t = between b (w.left.at + n) w.left.end
 
-  past : identity_from e t (drop w.at s) seen ≡ identity_from e (span_bytes b place) s none
+  past : identity_from e t (drop w.at s) seen ≡ identity_from e (span_bytes b place) s None
   unfolding Quiet
   past =
       let m : n ≡ w.left.at + n - w.left.at = omega arith in
@@ -54,21 +45,21 @@ module _ (e : Encoding) (b s : List ℕ) (place : Span) (w : Walk) (k : Walked e
       sym (q e t (drop w.at s) seen (is_stated w.seen))
       ∙ ap (λ (x : List ℕ). identity_from e x (drop w.at s) seen) (ap (λ (i : ℕ). take i (drop w.left.at b) ++ t) m ∙ sym split) ∙ k.same
 
-  abbrev step : Check (math.Option Move)
+  abbrev step : Result (Option Move) ℕ
   step = attribute_step e t (take (length s - w.at) (drop w.at s)) seen
 
   whole : step ≡ attribute_step e t (drop w.at s) seen
   whole = ap (λ (x : List ℕ). attribute_step e t x seen) (rest w.at s)
 
-  pub walked_not : (j : ℕ) → refuse j ≡ step → refuse j ≡ identity_from e (span_bytes b place) s none
+  pub walked_not : (j : ℕ) → Err j ≡ step → Err j ≡ identity_from e (span_bytes b place) s None
   walked_not j g =
       let i = sym (g ∙ whole) in
-      ap refuse ((only_step e t (drop w.at s) seen).is j i) ∙ unread e t (drop w.at s) seen (from_not e t (drop w.at s) seen j i) ∙ past
+      ap Err ((only_step e t (drop w.at s) seen).is j i) ∙ unread e t (drop w.at s) seen (from_not e t (drop w.at s) seen j i) ∙ past
 
-  pub walked_end : pass none ≡ step → needed seen ≡ identity_from e (span_bytes b place) s none
+  pub walked_end : Ok None ≡ step → needed seen ≡ identity_from e (span_bytes b place) s None
   walked_end g = sym (from_end e t (drop w.at s) seen (sym (g ∙ whole))) ∙ past
 
-  module _ (m : Move) (g : pass (some m) ≡ step) where
+  module _ (m : Move) (g : Ok (Some m) ≡ step) where
     taken : (1 ≤ m.taken) × (m.taken ≤ length t) × (m.passed ≤ length (drop w.at s))
     taken = stepped_within e t (drop w.at s) seen m (sym (g ∙ whole))
 
@@ -86,7 +77,7 @@ module _ (e : Encoding) (b s : List ℕ) (place : Span) (w : Walk) (k : Walked e
       count = omega (arith, walked_taken, a, c, k.count);
       same =
           ap₂ (λ (i j : ℕ). identity_from e (between b i j) (drop v.at s) (seen_is v.seen)) a z
-          ∙ ap₂ (λ (i : ℕ) (y : math.Option ℕ). identity_from e (between b (w.left.at + n + m.taken) w.left.end) (drop i s) y) u x
+          ∙ ap₂ (λ (i : ℕ) (y : Option ℕ). identity_from e (between b (w.left.at + n + m.taken) w.left.end) (drop i s) y) u x
           ∙ ap₂ (λ (y z : List ℕ). identity_from e y z m.seen) (between_drop b (w.left.at + n) w.left.end m.taken) (sym (drop-drop m.passed w.at s))
           ∙ sym (from_on e t (drop w.at s) seen m (sym (g ∙ whole))) ∙ past;
     }
@@ -103,6 +94,6 @@ module _ (b s : List ℕ) (p : Span) (r : Root) where
 
   -- the unit as the code cuts it
   pub root_behind : RootFound (span_bytes b p) s (Ok r) → (e : Encoding)
-      → root_identity e (span_bytes b p) s ≡ identity_from e (between b (p.at + r.attributes) p.end) (take (length s - r.values) (drop r.values s)) none
+      → root_identity e (span_bytes b p) s ≡ identity_from e (between b (p.at + r.attributes) p.end) (take (length s - r.values) (drop r.values s)) None
   unfolding RootFound
-  root_behind f e = f.2 e ∙ ap₂ (λ (x y : List ℕ). identity_from e x y none) (sym (between_drop b p.at p.end r.attributes)) (sym (rest r.values s))
+  root_behind f e = f.2 e ∙ ap₂ (λ (x y : List ℕ). identity_from e x y None) (sym (between_drop b p.at p.end r.attributes)) (sym (rest r.values s))

@@ -1,16 +1,9 @@
 -- One attribute of an abbreviation table, and all of a declaration's.
-use mathlib.Core.Path.{◌≡◌, refl, sym, ap, ◌∙◌}
-use mathlib.Core.Bool.{Bool, true, false, not, beq}
-use mathlib.Core.List.{List, [], ◌∷◌}
-use Prim.Native.Nat.{ℕ, zero, suc, ◌+◌, ◌≤◌}
-use native.Mathlib.Omega.{arith}
+use Rattle.std.proofs.Common.{◌≡◌, refl, sym, ap, ◌∙◌, Bool, true, false, not, List, [], ◌∷◌, ℕ, zero, suc, ◌+◌, ◌≤◌, arith, eqb, length, drop, get_or, length-drop, drop-drop, eq-eqb, ne_eqb}
+use mathlib.Core.Bool.{beq}
 use native.Mathlib.Decide.{ℕ_discrete}
-use lib.Dec.{eqb}
-use lib.ListN.{length, drop, get_or, length-drop}
-use lib.Seq.{drop-drop}
-use borrow.Author.Tests.{eq-eqb, ne_eqb}
 use Rattle.octets.specs.Lists.{zero_together}
-use Rattle.octets.specs.Checked.{Check, pass, refuse, ◌>>=◌, require}
+use Rattle.octets.specs.Checked.{◌>>=◌, require}
 use Rattle.octets.proofs.Checks.{pass_refuse, pass_inj, bind_pass, bind_same, then_pass, then_refuse, require_pass, passes, fails}
 use Rattle.octets.proofs.Refusals.{Only, only_pass, only_refuse, only_require, only_bind}
 use Rattle.leb128.specs.Leb128.{groups, short}
@@ -18,7 +11,7 @@ use Rattle.leb128.proofs.Taken.{short_taken, only_short}
 use Rattle.unit.specs.Abbreviations.{Attribute, attribute_at, attributes_then, attributes_from, attributes_of}
 use Rattle.unit.specs.Tables.{attributes_size}
 use Rattle.unit.proofs.Sizes.{further, further_none}
-use Rattle.std.specs.Prelude.{if◌then◌else◌}
+use Rattle.std.specs.Prelude.{if◌then◌else◌, Result, Ok, Err}
 
 -- ---- one attribute
 module _ (a b : ℕ) where
@@ -44,31 +37,31 @@ module _ (a b : ℕ) where
 
 -- ---- as the code reads it
 module _ (s : List ℕ) where
-  pub attribute_none : (k : ℕ) → short s ≡ refuse k → attribute_at s ≡ refuse k
+  pub attribute_none : (k : ℕ) → short s ≡ Err k → attribute_at s ≡ Err k
   unfolding attribute_at
   attribute_none k h = then_refuse _ _ k h
 
-  module _ (x n : ℕ) (h : short s ≡ pass (x, n)) where
-    pub attribute_half : (k : ℕ) → short (drop n s) ≡ refuse k → attribute_at s ≡ refuse k
+  module _ (x n : ℕ) (h : short s ≡ Ok (x, n)) where
+    pub attribute_half : (k : ℕ) → short (drop n s) ≡ Err k → attribute_at s ≡ Err k
     unfolding attribute_at
     attribute_half k g = then_pass _ _ _ h ∙ then_refuse _ _ k g
 
-    module _ (y m : ℕ) (g : short (drop n s) ≡ pass (y, m)) where
-      pub attribute_apart : not (beq (eqb x 0) (eqb y 0)) ≡ true → attribute_at s ≡ refuse 12
+    module _ (y m : ℕ) (g : short (drop n s) ≡ Ok (y, m)) where
+      pub attribute_apart : not (beq (eqb x 0) (eqb y 0)) ≡ true → attribute_at s ≡ Err 12
       unfolding attribute_at
       attribute_apart i = then_pass _ _ _ h ∙ then_pass _ _ _ g ∙ fails _ _ _ (apart x y i)
 
       module _ (i : not (beq (eqb x 0) (eqb y 0)) ≡ false) where
-        pub attribute_bad : y ≡ 0x21 → attribute_at s ≡ refuse 12
+        pub attribute_bad : y ≡ 0x21 → attribute_at s ≡ Err 12
         unfolding attribute_at
         attribute_bad j = then_pass _ _ _ h ∙ then_pass _ _ _ g ∙ passes _ _ _ (together x y i) ∙ fails _ _ _ (ap not (eq-eqb y 0x21 j))
 
-        pub attribute_good : (y ≡ 0x21 → ⊥) → attribute_at s ≡ pass (record { name = x; form = y }, n + m)
+        pub attribute_good : (y ≡ 0x21 → ⊥) → attribute_at s ≡ Ok (record { name = x; form = y }, n + m)
         unfolding attribute_at
         attribute_good j = then_pass _ _ _ h ∙ then_pass _ _ _ g ∙ passes _ _ _ (together x y i) ∙ passes _ _ _ (ap not (ne_eqb y 0x21 j))
 
 -- it takes at least two bytes, and ends in s
-pub attribute_at_taken : (s : List ℕ) (r : Attribute × ℕ) → attribute_at s ≡ pass r → (2 ≤ r.1) × (r.1 ≤ length s)
+pub attribute_at_taken : (s : List ℕ) (r : Attribute × ℕ) → attribute_at s ≡ Ok r → (2 ≤ r.1) × (r.1 ≤ length s)
 unfolding attribute_at
 attribute_at_taken s r e =
     let p = bind_pass (short s) _ r e in
@@ -80,10 +73,10 @@ attribute_at_taken s r e =
     let n : p.0.1 + q.0.1 ≡ r.1 = ap (λ (x : Attribute × ℕ). x.1) (pass_inj v.1) in
     (omega (arith, h.some, g.some), omega (arith, h.within, g.within, length-drop p.0.1 s))
 
-pub attribute_some : (s : List ℕ) (a : Attribute) (n : ℕ) → attribute_at s ≡ pass (a, n) → 1 ≤ n
+pub attribute_some : (s : List ℕ) (a : Attribute) (n : ℕ) → attribute_at s ≡ Ok (a, n) → 1 ≤ n
 attribute_some s a n e = omega (arith, attribute_at_taken s (a, n) e)
 
-pub attribute_ends : (s : List ℕ) (at : ℕ) (a : Attribute) (n : ℕ) → attribute_at (drop at s) ≡ pass (a, n) → at ≤ length s → at + n ≤ length s
+pub attribute_ends : (s : List ℕ) (at : ℕ) (a : Attribute) (n : ℕ) → attribute_at (drop at s) ≡ Ok (a, n) → at ≤ length s → at + n ≤ length s
 attribute_ends s at a n e l = omega (arith, attribute_at_taken (drop at s) (a, n) e, length-drop at s)
 
 pub only_attribute_at : (s : List ℕ) → Only 12 (attribute_at s)
@@ -92,12 +85,12 @@ only_attribute_at s =
     only_bind 12 _ _ (only_short s) (λ p. only_bind 12 _ _ (only_short (drop p.1 s)) (λ q. only_bind 12 _ _ (only_require _ 12) (λ _. only_bind 12 _ _ (only_require _ 12) (λ _. only_pass 12 _))))
 
 -- ---- all of a declaration's
-then_same : (a : Attribute) (n : ℕ) (f g : ℕ → Check (List Attribute × ℕ)) → f n ≡ g n → attributes_then a n f ≡ attributes_then a n g
+then_same : (a : Attribute) (n : ℕ) (f g : ℕ → Result (List Attribute × ℕ) ℕ) → f n ≡ g n → attributes_then a n f ≡ attributes_then a n g
 unfolding attributes_then
 then_same a n f g e =
-    ap (λ (x : Check (List Attribute × ℕ)). if eqb a.name 0 then pass ([], n) else x >>= λ r. pass (a ∷ r.0, n + r.1)) e
+    ap (λ (x : Result (List Attribute × ℕ) ℕ). if eqb a.name 0 then Ok ([], n) else x >>= λ r. Ok (a ∷ r.0, n + r.1)) e
 
-attributes_nil : (k : ℕ) → attributes_from k [] ≡ refuse 12
+attributes_nil : (k : ℕ) → attributes_from k [] ≡ Err 12
 unfolding attributes_from attribute_at short groups ◌>>=◌
 attributes_nil zero = refl
 attributes_nil (suc k) = refl
@@ -130,28 +123,28 @@ attributes_is [] = refl
 attributes_is (b ∷ s) = attributes_step (length s) (b ∷ s) refl
 
 module _ (s : List ℕ) where
-  pub attributes_not : (k : ℕ) → attribute_at s ≡ refuse k → attributes_of s ≡ refuse k
+  pub attributes_not : (k : ℕ) → attribute_at s ≡ Err k → attributes_of s ≡ Err k
   attributes_not k e = attributes_is s ∙ then_refuse _ _ k e
 
-  module _ (a : Attribute) (n : ℕ) (e : attribute_at s ≡ pass (a, n)) where
-    pub attributes_end : a.name ≡ 0 → attributes_of s ≡ pass ([], n)
+  module _ (a : Attribute) (n : ℕ) (e : attribute_at s ≡ Ok (a, n)) where
+    pub attributes_end : a.name ≡ 0 → attributes_of s ≡ Ok ([], n)
     unfolding attributes_then
     attributes_end h = attributes_is s ∙ then_pass _ _ _ e ∙ rw (attributes_then, eq-eqb a.name 0 h)
 
-    pub attributes_more : (a.name ≡ 0 → ⊥) → attributes_of s ≡ (attributes_of (drop n s) >>= λ r. pass (a ∷ r.0, n + r.1))
+    pub attributes_more : (a.name ≡ 0 → ⊥) → attributes_of s ≡ (attributes_of (drop n s) >>= λ r. Ok (a ∷ r.0, n + r.1))
     unfolding attributes_then
     attributes_more h = attributes_is s ∙ then_pass _ _ _ e ∙ rw (attributes_then, ne_eqb a.name 0 h)
 
-pub then_end : (a : Attribute) (n : ℕ) (f : ℕ → Check (List Attribute × ℕ)) → a.name ≡ 0 → attributes_then a n f ≡ pass ([], n)
+pub then_end : (a : Attribute) (n : ℕ) (f : ℕ → Result (List Attribute × ℕ) ℕ) → a.name ≡ 0 → attributes_then a n f ≡ Ok ([], n)
 unfolding attributes_then
 then_end a n f h = rw (attributes_then, eq-eqb a.name 0 h)
 
-pub then_more : (a : Attribute) (n : ℕ) (f : ℕ → Check (List Attribute × ℕ)) → (a.name ≡ 0 → ⊥) → attributes_then a n f ≡ (f n >>= λ r. pass (a ∷ r.0, n + r.1))
+pub then_more : (a : Attribute) (n : ℕ) (f : ℕ → Result (List Attribute × ℕ) ℕ) → (a.name ≡ 0 → ⊥) → attributes_then a n f ≡ (f n >>= λ r. Ok (a ∷ r.0, n + r.1))
 unfolding attributes_then
 then_more a n f h = rw (attributes_then, ne_eqb a.name 0 h)
 
 -- they take at least two bytes, and end in s
-from_within : (k : ℕ) (s : List ℕ) (r : List Attribute × ℕ) → attributes_from k s ≡ pass r → (2 ≤ r.1) × (r.1 ≤ length s)
+from_within : (k : ℕ) (s : List ℕ) (r : List Attribute × ℕ) → attributes_from k s ≡ Ok r → (2 ≤ r.1) × (r.1 ≤ length s)
 unfolding attributes_from
 from_within zero s r e = absurd (pass_refuse r 12 (sym e))
 from_within (suc k) s r e =
@@ -168,7 +161,7 @@ from_within (suc k) s r e =
           (omega (arith, t.0), omega (arith, t.1, i.1, length-drop p.0.1 s))
     ]
 
-pub attributes_within : (s : List ℕ) (r : List Attribute × ℕ) → attributes_of s ≡ pass r → (2 ≤ r.1) × (r.1 ≤ length s)
+pub attributes_within : (s : List ℕ) (r : List Attribute × ℕ) → attributes_of s ≡ Ok r → (2 ≤ r.1) × (r.1 ≤ length s)
 unfolding attributes_of
 attributes_within s r e = from_within (length s) s r e
 
@@ -181,27 +174,27 @@ only_attributes_from (suc k) s = only_bind 12 _ _ (only_attribute_at s) (λ r. e
 ])
 
 -- ---- a walk over them, behind so many bytes
-further_further : (i n : ℕ) (m : Check ℕ) → further i (further n m) ≡ further (i + n) m
+further_further : (i n : ℕ) (m : Result ℕ ℕ) → further i (further n m) ≡ further (i + n) m
 unfolding further ◌>>=◌
-further_further i n (pass k) = ap pass (omega arith)
-further_further i n (refuse k) = refl
+further_further i n (Ok k) = ap Ok (omega arith)
+further_further i n (Err k) = refl
 
 -- one attribute in front of others
-abbrev pub before : Attribute → ℕ → List Attribute × ℕ → Check (List Attribute × ℕ)
-before a n r = pass (a ∷ r.0, n + r.1)
+abbrev pub before : Attribute → ℕ → List Attribute × ℕ → Result (List Attribute × ℕ) ℕ
+before a n r = Ok (a ∷ r.0, n + r.1)
 
-sizes_more : (a : Attribute) (n : ℕ) (m : Check (List Attribute × ℕ)) → (m >>= before a n >>= λ r. pass r.1) ≡ further n (m >>= λ r. pass r.1)
+sizes_more : (a : Attribute) (n : ℕ) (m : Result (List Attribute × ℕ) ℕ) → (m >>= before a n >>= λ r. Ok r.1) ≡ further n (m >>= λ r. Ok r.1)
 unfolding further ◌>>=◌
-sizes_more a n (pass r) = refl
-sizes_more a n (refuse k) = refl
+sizes_more a n (Ok r) = refl
+sizes_more a n (Err k) = refl
 
 module _ (s : List ℕ) (at : ℕ) where
-  pub walk_refused : (k : ℕ) → attribute_at (drop at s) ≡ refuse k → further at (attributes_size (drop at s)) ≡ refuse k
+  pub walk_refused : (k : ℕ) → attribute_at (drop at s) ≡ Err k → further at (attributes_size (drop at s)) ≡ Err k
   unfolding further attributes_size
   walk_refused k e = then_refuse _ _ k (then_refuse _ _ k (attributes_not (drop at s) k e))
 
-  module _ (a : Attribute) (n : ℕ) (e : attribute_at (drop at s) ≡ pass (a, n)) where
-    pub walk_end : a.name ≡ 0 → further at (attributes_size (drop at s)) ≡ pass (at + n)
+  module _ (a : Attribute) (n : ℕ) (e : attribute_at (drop at s) ≡ Ok (a, n)) where
+    pub walk_end : a.name ≡ 0 → further at (attributes_size (drop at s)) ≡ Ok (at + n)
     unfolding further attributes_size
     walk_end h = then_pass _ _ _ (then_pass _ _ _ (attributes_end (drop at s) a n e h))
 
@@ -209,22 +202,22 @@ module _ (s : List ℕ) (at : ℕ) where
     unfolding attributes_size
     walk_on h =
         sym (
-        ap (λ (m : Check (List Attribute × ℕ)). further at (m >>= λ r. pass r.1)) (attributes_more (drop at s) a n e h)
+        ap (λ (m : Result (List Attribute × ℕ) ℕ). further at (m >>= λ r. Ok r.1)) (attributes_more (drop at s) a n e h)
         ∙ ap (further at) (sizes_more a n (attributes_of (drop n (drop at s)))) ∙ further_further at n _
         ∙ ap (λ (t : List ℕ). further (at + n) (attributes_size t)) (drop-drop n at s)
         )
 
 -- the pair of zeros in front
-zero_pair : (s : List ℕ) → attribute_at (0 ∷ 0 ∷ s) ≡ pass (record { name = 0; form = 0 }, 2)
+zero_pair : (s : List ℕ) → attribute_at (0 ∷ 0 ∷ s) ≡ Ok (record { name = 0; form = 0 }, 2)
 unfolding attribute_at short groups zero_together require ◌>>=◌
 zero_pair s = refl
 
-pub size_none : (s : List ℕ) → 2 ≤ length s → get_or s 0 0 ≡ 0 → get_or s 1 0 ≡ 0 → attributes_size s ≡ pass 2
+pub size_none : (s : List ℕ) → 2 ≤ length s → get_or s 0 0 ≡ 0 → get_or s 1 0 ≡ 0 → attributes_size s ≡ Ok 2
 size_none [] h e f = absurd (omega arith)
 size_none (a ∷ []) h e f = absurd (omega arith)
 size_none (a ∷ b ∷ s) h e f = rw (e, f) (sym (further_none _) ∙ walk_end (0 ∷ 0 ∷ s) 0 _ 2 (zero_pair s) refl)
 
-pub size_within : (s : List ℕ) (n : ℕ) → attributes_size s ≡ pass n → n ≤ length s
+pub size_within : (s : List ℕ) (n : ℕ) → attributes_size s ≡ Ok n → n ≤ length s
 unfolding attributes_size
 size_within s n e =
     let p = bind_pass (attributes_of s) _ n e in

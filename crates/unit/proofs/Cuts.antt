@@ -1,12 +1,8 @@
 -- The parts of a bundle that a unit is read from.
-use mathlib.Core.Path.{◌≡◌, sym, ap, ap₂, ◌∙◌}
-use mathlib.Core.List.{List, ◌++◌}
-use Prim.Native.Nat.{ℕ, ◌+◌, ◌-◌, ◌≤◌, ◌<◌}
-use native.Mathlib.Omega.{arith}
-use lib.ListN.{length, take, drop, length-drop}
-use lib.Seq.{drop-drop, take-take, take-add, length-take-le}
+use Rattle.std.proofs.Common.{◌≡◌, sym, ap, ap₂, ◌∙◌, List, ◌++◌, ℕ, ◌+◌, ◌-◌, ◌≤◌, ◌<◌, arith, length, take, drop, length-drop, drop-drop, take-take, take-add, length-take-le}
 use Rattle.octets.specs.Octets.{part}
-use Rattle.octets.specs.Checked.{pass, refuse, ◌>>=◌}
+use Rattle.std.specs.Prelude.{Ok, Err}
+use Rattle.octets.specs.Checked.{◌>>=◌}
 use Rattle.octets.proofs.Checks.{then_pass, then_refuse}
 use Rattle.octets.proofs.Parts.{drop_take, length_part, part_cut}
 use Rattle.bundle.specs.Encoding.{Encoding}
@@ -49,7 +45,7 @@ module _ (e : Encoding) (home : ℕ) (a b : List ℕ) (at size : ℕ) (h : at + 
     kind_own : header_size e k ≡ header_size e (kind_of e home own)
     kind_own = ap (header_size e) (i ∙ ap (kind_of e home) (part_cut b at size))
 
-    pub answer_short : common_size e ≤ size → size < n → identity_good e home a own ≡ refuse 11
+    pub answer_short : common_size e ≤ size → size < n → identity_good e home a own ≡ Err 11
     answer_short c g =
         let l = length_part b at size h in
         good_short e home a own (omega (arith, l)) (omega (arith, l, m, kind_own))
@@ -60,21 +56,21 @@ module _ (e : Encoding) (home : ℕ) (a b : List ℕ) (at size : ℕ) (h : at + 
           good_whole e home a own (omega (arith, length_part b at size h, m, kind_own))
           ∙ ap non_zero (sym (ap₂ (λ (q : Kind) (u : List ℕ). identity_by e q a u) (i ∙ ap (kind_of e home) (part_cut b at size)) (part_cut b at size)))
 
-      pub answer_not : (j : ℕ) → identity_by e k a cut ≡ refuse j → identity_good e home a own ≡ refuse j
+      pub answer_not : (j : ℕ) → identity_by e k a cut ≡ Err j → identity_good e home a own ≡ Err j
       unfolding non_zero
       answer_not j c = answer_good ∙ then_refuse _ _ j c
 
-      module _ (t x : ℕ) (c : identity_by e k a cut ≡ pass (record { table = t; identity = x })) where
-        pub answer_zero : x ≡ 0 → identity_good e home a own ≡ refuse 13
+      module _ (t x : ℕ) (c : identity_by e k a cut ≡ Ok (record { table = t; identity = x })) where
+        pub answer_zero : x ≡ 0 → identity_good e home a own ≡ Err 13
         answer_zero z = answer_good ∙ zero_refused _ _ c z
 
-        pub answer_is : (x ≡ 0 → ⊥) → identity_good e home a own ≡ pass (record { table = t; identity = x })
+        pub answer_is : (x ≡ 0 → ⊥) → identity_good e home a own ≡ Ok (record { table = t; identity = x })
         answer_is z = answer_good ∙ zero_not _ _ c z
 
-  pub unit_none : (k : ℕ) → head_of e cut ≡ refuse k → unit_of e home a own ≡ refuse k
+  pub unit_none : (k : ℕ) → head_of e cut ≡ Err k → unit_of e home a own ≡ Err k
   unit_none k g = unit_headless e home a own k (ap (head_of e) (sym (part_cut b at size)) ∙ g)
 
-  module _ (n : ℕ) (g : head_of e cut ≡ pass n) where
+  module _ (n : ℕ) (g : head_of e cut ≡ Ok n) where
     pub own_within : n ≤ size
     own_within = omega (arith, cut_length, head_within e cut n g)
 
@@ -87,10 +83,10 @@ module _ (e : Encoding) (home : ℕ) (a b : List ℕ) (at size : ℕ) (h : at + 
         unit_headed e home a own n (ap (head_of e) (sym (part_cut b at size)) ∙ g)
         ∙ ap (λ (u : List ℕ). identity_good e home a u >>= unit_with n) (take-take n size (drop at b) own_within)
 
-    pub unit_not : (k : ℕ) → identity_good e home a (part b at n) ≡ refuse k → unit_of e home a own ≡ refuse k
+    pub unit_not : (k : ℕ) → identity_good e home a (part b at n) ≡ Err k → unit_of e home a own ≡ Err k
     unit_not k c = unit_whole ∙ then_refuse _ _ k c
 
-    pub unit_done : (t x : ℕ) → identity_good e home a (part b at n) ≡ pass (record { table = t; identity = x }) → unit_of e home a own ≡ pass (record { size = n; table = t; identity = x })
+    pub unit_done : (t x : ℕ) → identity_good e home a (part b at n) ≡ Ok (record { table = t; identity = x }) → unit_of e home a own ≡ Ok (record { size = n; table = t; identity = x })
     unit_done t x c = unit_whole ∙ then_pass _ _ _ c
 
 -- ---- as functions name them

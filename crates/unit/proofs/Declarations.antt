@@ -1,13 +1,8 @@
 -- The declarations of an abbreviation table up to its zero code: equations without a bound, by what stands at the front.
-use mathlib.Core.Path.{◌≡◌, refl, sym, ap, ◌∙◌}
-use mathlib.Core.List.{List, [], ◌∷◌}
-use Prim.Native.Nat.{ℕ, zero, suc, ◌+◌, ◌≤◌}
-use native.Mathlib.Omega.{arith}
+use Rattle.std.proofs.Common.{◌≡◌, refl, sym, ap, ◌∙◌, List, [], ◌∷◌, ℕ, zero, suc, ◌+◌, ◌≤◌, arith, length, drop, length-drop, drop-drop, eq-eqb, ne_eqb}
 use native.Mathlib.Decide.{ℕ_discrete}
-use lib.ListN.{length, drop, length-drop}
-use lib.Seq.{drop-drop}
-use borrow.Author.Tests.{eq-eqb, ne_eqb}
-use Rattle.octets.specs.Checked.{Check, pass, refuse, ◌>>=◌}
+use Rattle.std.specs.Prelude.{Result, Ok, Err}
+use Rattle.octets.specs.Checked.{◌>>=◌}
 use Rattle.octets.proofs.Checks.{pass_inj, bind_pass, bind_same, then_pass, passes, require_pass}
 use Rattle.octets.proofs.Refusals.{Only, only_pass, only_refuse, only_require, only_bind}
 use Rattle.leb128.specs.Leb128.{groups, short, unsigned}
@@ -24,14 +19,14 @@ declared code tag «as» = record { code = code; tag = tag; attributes = «as» 
 pub record Stands (s : List ℕ) (p : Place) : Type 0 where
   pub attributes : List Attribute
   pub size : ℕ
-  pub read : attributes_of (drop p.start s) ≡ pass (attributes, size)
+  pub read : attributes_of (drop p.start s) ≡ Ok (attributes, size)
   pub head : 2 ≤ p.start
   pub order : p.start + 2 ≤ p.end
   pub whole : p.start + size ≡ p.end
   pub within : p.end ≤ length s
-  pub is : (code : ℕ) → declaration_at code s ≡ pass (declared code p.tag attributes, p.end)
+  pub is : (code : ℕ) → declaration_at code s ≡ Ok (declared code p.tag attributes, p.end)
 
-pub place_stands : (s : List ℕ) (p : Place) → place_at s ≡ pass p → Stands s p
+pub place_stands : (s : List ℕ) (p : Place) → place_at s ≡ Ok p → Stands s p
 unfolding place_at declaration_at attributes_size
 place_stands s p e =
     let tag = bind_pass (short s) _ p e in
@@ -53,11 +48,11 @@ place_stands s p e =
       whole = omega (arith, m);
       within = omega (arith, w.1, w.0, h.within, m, length-drop tag.0.1 s, length-drop 1 (drop tag.0.1 s));
       is = λ code. then_pass _ _ _ tag.1 ∙ passes _ _ _ named.0 ∙ passes _ _ _ child.0 ∙ then_pass _ _ _ read.1
-          ∙ ap (λ (k : ℕ). pass (declared code tag.0.0 read.0.0, tag.0.1 + 1 + k)) m;
+          ∙ ap (λ (k : ℕ). Ok (declared code tag.0.0 read.0.0, tag.0.1 + 1 + k)) m;
     })
 
 -- and a declaration has a place
-pub declaration_place : (code : ℕ) (s : List ℕ) (d : Declaration × ℕ) → declaration_at code s ≡ pass d → (p : Place) × (place_at s ≡ pass p)
+pub declaration_place : (code : ℕ) (s : List ℕ) (d : Declaration × ℕ) → declaration_at code s ≡ Ok d → (p : Place) × (place_at s ≡ Ok p)
 unfolding place_at declaration_at attributes_size
 declaration_place code s d e =
     let tag = bind_pass (short s) _ d e in
@@ -74,26 +69,26 @@ only_declaration_at code s =
     only_bind 12 _ _ (only_short s) (λ tag. only_bind 12 _ _ (only_require _ 12) (λ _. only_bind 12 _ _ (only_require _ 12) (λ _. only_bind 12 _ _ (only_attributes_from _ _) (λ _. only_pass 12 _))))
 
 -- ---- equations without a bound
-pub then_end : (code : ℕ) (s : List ℕ) (f : List ℕ → Check (List Declaration)) → code ≡ 0 → declarations_then code s f ≡ pass []
+pub then_end : (code : ℕ) (s : List ℕ) (f : List ℕ → Result (List Declaration) ℕ) → code ≡ 0 → declarations_then code s f ≡ Ok []
 unfolding declarations_then
 then_end code s f h = rw (declarations_then, eq-eqb code 0 h)
 
-pub then_more : (code : ℕ) (s : List ℕ) (f : List ℕ → Check (List Declaration)) → (code ≡ 0 → ⊥)
-    → declarations_then code s f ≡ (declaration_at code s >>= λ d. (f (drop d.1 s) >>= λ ds. pass (d.0 ∷ ds)))
+pub then_more : (code : ℕ) (s : List ℕ) (f : List ℕ → Result (List Declaration) ℕ) → (code ≡ 0 → ⊥)
+    → declarations_then code s f ≡ (declaration_at code s >>= λ d. (f (drop d.1 s) >>= λ ds. Ok (d.0 ∷ ds)))
 unfolding declarations_then
 then_more code s f h = rw (declarations_then, ne_eqb code 0 h)
 
-then_same : (code : ℕ) (s : List ℕ) (f g : List ℕ → Check (List Declaration)) → ((t : List ℕ) → length t ≤ length s → f t ≡ g t)
+then_same : (code : ℕ) (s : List ℕ) (f g : List ℕ → Result (List Declaration) ℕ) → ((t : List ℕ) → length t ≤ length s → f t ≡ g t)
     → declarations_then code s f ≡ declarations_then code s g
 then_same code s f g e = elim (ℕ_discrete code 0) [
   | yes h ↦ then_end code s f h ∙ sym (then_end code s g h)
   | no h ↦
       then_more code s f h
-      ∙ bind_same (declaration_at code s) _ _ (λ d _. ap (λ (m : Check (List Declaration)). m >>= λ ds. pass (d.0 ∷ ds)) (e (drop d.1 s) (omega (arith, length-drop d.1 s))))
+      ∙ bind_same (declaration_at code s) _ _ (λ d _. ap (λ (m : Result (List Declaration) ℕ). m >>= λ ds. Ok (d.0 ∷ ds)) (e (drop d.1 s) (omega (arith, length-drop d.1 s))))
       ∙ sym (then_more code s g h)
 ]
 
-declarations_nil : (k : ℕ) → declarations_from k [] ≡ refuse 12
+declarations_nil : (k : ℕ) → declarations_from k [] ≡ Err 12
 unfolding declarations_from unsigned groups ◌>>=◌
 declarations_nil zero = refl
 declarations_nil (suc k) = refl

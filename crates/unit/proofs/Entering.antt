@@ -1,12 +1,8 @@
 -- A table that is judged into the free words, and becomes one of the directory.
-use mathlib.Core.Path.{◌≡◌, refl, sym, subst, ap, ap₂, ◌∙◌}
-use mathlib.Core.Bool.{Bool, true, false}
-use mathlib.Core.List.{List, [], ◌∷◌, ◌++◌}
-use Prim.Native.Nat.{ℕ, ◌+◌, ◌-◌, ◌*◌, ◌/◌, ◌^◌, ◌<◌, ◌≤◌}
-use native.Mathlib.Omega.{arith}
+use Rattle.std.proofs.Common.{◌≡◌, refl, sym, subst, ap, ap₂, ◌∙◌, Bool, true, false, List, [], ◌∷◌, ◌++◌, ℕ, ◌+◌, ◌-◌, ◌*◌, ◌/◌, ◌^◌, ◌<◌, ◌≤◌, arith, length, take, drop, get_or, length-append, length-drop, take_at, length-take-le, get_or-drop, get_or-append-add}
 use native.Mathlib.Decide.{dec_le}
-use lib.ListN.{length, take, drop, get_or, length-append, length-drop, get_or-append}
-use lib.Seq.{take_at, length-take-le, get_or-drop, get_or-append-add, get_or-append_seam}
+use lib.ListN.{get_or-append}
+use lib.Seq.{get_or-append_seam}
 use borrow.Rule.Slice.PartMut.{put_mid, mid_of, mid_len}
 use Rattle.std.specs.Prelude.{Some}
 use Rattle.octets.specs.Octets.{placed}

@@ -1,13 +1,10 @@
 -- Units and their identities, as the checker computes them: a root with an attribute of every form, units of every type, reserved lengths; and one unit for each
 -- fault of a table, a root and a header.
-use mathlib.Core.Path.{◌≡◌, refl}
-use mathlib.Core.Bool.{false}
-use mathlib.Core.List.{List, [], ◌∷◌, ◌++◌, map}
-use Prim.Native.Nat.{ℕ, ◌+◌}
-use lib.ListN.{length, replicate}
+use Rattle.std.proofs.Common.{◌≡◌, refl, false, List, [], ◌∷◌, ◌++◌, map, ℕ, ◌+◌, length, replicate}
 use Rattle.octets.specs.Octets.{part, little, number, number_at, little_of, bytes_of, numbers_of}
 use Rattle.octets.specs.Lists.{joined, any, has, distinct, zero_together}
-use Rattle.octets.specs.Checked.{Check, pass, refuse, ◌>>=◌, require}
+use Rattle.std.specs.Prelude.{Result, Ok, Err}
+use Rattle.octets.specs.Checked.{◌>>=◌, require}
 use Rattle.leb128.specs.Leb128.{groups, short, unsigned, signed_size}
 use Rattle.bundle.specs.Encoding.{Encoding}
 use Rattle.unit.specs.Abbreviations.{attribute_at, attributes_then, attributes_from, attributes_of, declaration_at, declarations_then, declarations_from, declarations_of, declaration_of}
@@ -93,54 +90,54 @@ offset_by at = bytes_of false 4 16 ++ (4 ∷ 0 ∷ at ∷ 0 ∷ 0 ∷ 0 ∷ 8 �
 abbrev pub unit_five : ℕ → List ℕ
 unit_five type = numbers_of false 4 (20 ∷ []) ++ (5 ∷ 0 ∷ type ∷ 8 ∷ []) ++ numbers_of false 4 (0 ∷ 7 ∷ 0 ∷ 0 ∷ [])
 
-abbrev read : ℕ → ℕ → ℕ → Check UnitRead
-read size table identity = pass (record { size = size; table = table; identity = identity })
+abbrev read : ℕ → ℕ → ℕ → Result UnitRead ℕ
+read size table identity = Ok (record { size = size; table = table; identity = identity })
 
 -- ---- 12 in version 4: a table of code 1, whose root states identity 5, and one more declaration behind it
 abbrev pub stated : List ℕ
 stated = 1 ∷ 0x11 ∷ 0 ∷ 0xB1 ∷ 0x42 ∷ 7 ∷ 0 ∷ 0 ∷ []
 
 -- the unit's answer, with this behind the root's declaration
-abbrev pub beside : List ℕ → Check UnitRead
+abbrev pub beside : List ℕ → Result UnitRead ℕ
 beside more = unit_of four 1 (stated ++ more) (unit_four ((1 ∷ []) ++ bytes_of false 8 5))
 
 -- the answer for these attributes of the root, with its values in front of the identity
-abbrev pub root_of : List ℕ → List ℕ → Check UnitRead
+abbrev pub root_of : List ℕ → List ℕ → Result UnitRead ℕ
 root_of attributes value = unit_of four 1 ((1 ∷ 0x11 ∷ 0 ∷ []) ++ attributes ++ (0xB1 ∷ 0x42 ∷ 7 ∷ 0 ∷ 0 ∷ 0 ∷ [])) (unit_four ((1 ∷ []) ++ value ++ bytes_of false 8 5))
 
 -- the same, with the code that the unit's root has
-abbrev pub coded : List ℕ → Check UnitRead
+abbrev pub coded : List ℕ → Result UnitRead ℕ
 coded code = unit_of four 1 (stated ++ (0 ∷ [])) (unit_four (code ++ bytes_of false 8 5))
 
-abbrev good : ℕ → Check UnitRead
+abbrev good : ℕ → Result UnitRead ℕ
 good size = read size 1 5
 
 abbrev pub Tables : Type 0
 Tables =
     -- the table's end; without one
     (beside (0 ∷ []) ≡ good 20)
-    × (beside [] ≡ refuse 12)
+    × (beside [] ≡ Err 12)
     -- a second declaration, which the root doesn't use: with an attribute or none; its code repeated
     × (beside (2 ∷ 0x2E ∷ 1 ∷ 3 ∷ 8 ∷ 0 ∷ 0 ∷ 0 ∷ []) ≡ good 20)
     × (beside (2 ∷ 0x2E ∷ 0 ∷ 0 ∷ 0 ∷ 0 ∷ []) ≡ good 20)
-    × (beside (1 ∷ 0x2E ∷ 1 ∷ 3 ∷ 8 ∷ 0 ∷ 0 ∷ 0 ∷ []) ≡ refuse 12)
-    × (beside (2 ∷ 0x2E ∷ 0 ∷ 0 ∷ 0 ∷ 2 ∷ 0x2E ∷ 0 ∷ 0 ∷ 0 ∷ 0 ∷ []) ≡ refuse 12)
-    × (beside (0x81 ∷ 0 ∷ 0x2E ∷ 0 ∷ 0 ∷ 0 ∷ 0 ∷ []) ≡ refuse 12)
+    × (beside (1 ∷ 0x2E ∷ 1 ∷ 3 ∷ 8 ∷ 0 ∷ 0 ∷ 0 ∷ []) ≡ Err 12)
+    × (beside (2 ∷ 0x2E ∷ 0 ∷ 0 ∷ 0 ∷ 2 ∷ 0x2E ∷ 0 ∷ 0 ∷ 0 ∷ 0 ∷ []) ≡ Err 12)
+    × (beside (0x81 ∷ 0 ∷ 0x2E ∷ 0 ∷ 0 ∷ 0 ∷ 0 ∷ []) ≡ Err 12)
     -- its tag is not 0, and at most 65,535
-    × (beside (2 ∷ 0 ∷ 0 ∷ 0 ∷ 0 ∷ 0 ∷ []) ≡ refuse 12)
+    × (beside (2 ∷ 0 ∷ 0 ∷ 0 ∷ 0 ∷ 0 ∷ []) ≡ Err 12)
     × (beside (2 ∷ 0xFF ∷ 0xFF ∷ 3 ∷ 0 ∷ 0 ∷ 0 ∷ 0 ∷ []) ≡ good 20)
-    × (beside (2 ∷ 0x80 ∷ 0x80 ∷ 4 ∷ 0 ∷ 0 ∷ 0 ∷ 0 ∷ []) ≡ refuse 12)
+    × (beside (2 ∷ 0x80 ∷ 0x80 ∷ 4 ∷ 0 ∷ 0 ∷ 0 ∷ 0 ∷ []) ≡ Err 12)
     -- the children byte is 0 or 1
-    × (beside (2 ∷ 0x2E ∷ 2 ∷ 0 ∷ 0 ∷ 0 ∷ []) ≡ refuse 12)
-    × (beside (2 ∷ 0x2E ∷ 0xFF ∷ 0 ∷ 0 ∷ 0 ∷ []) ≡ refuse 12)
+    × (beside (2 ∷ 0x2E ∷ 2 ∷ 0 ∷ 0 ∷ 0 ∷ []) ≡ Err 12)
+    × (beside (2 ∷ 0x2E ∷ 0xFF ∷ 0 ∷ 0 ∷ 0 ∷ []) ≡ Err 12)
     -- a name without a form, a form without a name
-    × (beside (2 ∷ 0x2E ∷ 0 ∷ 3 ∷ 0 ∷ 0 ∷ 0 ∷ 0 ∷ []) ≡ refuse 12)
-    × (beside (2 ∷ 0x2E ∷ 0 ∷ 0 ∷ 8 ∷ 0 ∷ 0 ∷ 0 ∷ []) ≡ refuse 12)
+    × (beside (2 ∷ 0x2E ∷ 0 ∷ 3 ∷ 0 ∷ 0 ∷ 0 ∷ 0 ∷ []) ≡ Err 12)
+    × (beside (2 ∷ 0x2E ∷ 0 ∷ 0 ∷ 8 ∷ 0 ∷ 0 ∷ 0 ∷ []) ≡ Err 12)
     -- form 21, whose value stands in the table, is refused wherever it stands; a form that has no width isn't, where the root doesn't have it
-    × (beside (2 ∷ 0x2E ∷ 0 ∷ 3 ∷ 0x21 ∷ 0 ∷ 0 ∷ 0 ∷ 0 ∷ []) ≡ refuse 12)
+    × (beside (2 ∷ 0x2E ∷ 0 ∷ 3 ∷ 0x21 ∷ 0 ∷ 0 ∷ 0 ∷ 0 ∷ []) ≡ Err 12)
     × (beside (2 ∷ 0x2E ∷ 0 ∷ 3 ∷ 0x22 ∷ 0 ∷ 0 ∷ 0 ∷ 0 ∷ []) ≡ good 20)
     × (beside (2 ∷ 0x2E ∷ 0 ∷ 3 ∷ 0x20 ∷ 0 ∷ 0 ∷ 0 ∷ 0 ∷ []) ≡ good 20)
-    × (root_of (3 ∷ 0x22 ∷ []) [] ≡ refuse 12)
+    × (root_of (3 ∷ 0x22 ∷ []) [] ≡ Err 12)
     -- what stands behind the zero code isn't read
     × (beside (0 ∷ 1 ∷ 0 ∷ []) ≡ good 20)
 
@@ -149,28 +146,28 @@ Roots =
     -- the root's code, which may be padded; one that isn't declared, and 0, which never is
     (coded (1 ∷ []) ≡ good 20)
     × (coded (0x81 ∷ 0 ∷ []) ≡ good 21)
-    × (coded (2 ∷ []) ≡ refuse 12)
-    × (coded (0 ∷ []) ≡ refuse 12)
+    × (coded (2 ∷ []) ≡ Err 12)
+    × (coded (0 ∷ []) ≡ Err 12)
     -- 2131 in another form of 8 bytes; by way of indirect, once and twice
-    × (unit_of four 1 (1 ∷ 0x11 ∷ 0 ∷ 0xB1 ∷ 0x42 ∷ 0x14 ∷ 0 ∷ 0 ∷ 0 ∷ []) (unit_four ((1 ∷ []) ++ bytes_of false 8 5)) ≡ refuse 12)
+    × (unit_of four 1 (1 ∷ 0x11 ∷ 0 ∷ 0xB1 ∷ 0x42 ∷ 0x14 ∷ 0 ∷ 0 ∷ 0 ∷ []) (unit_four ((1 ∷ []) ++ bytes_of false 8 5)) ≡ Err 12)
     × (unit_of four 1 (1 ∷ 0x11 ∷ 0 ∷ 0xB1 ∷ 0x42 ∷ 0x16 ∷ 0 ∷ 0 ∷ 0 ∷ []) (unit_four ((1 ∷ 7 ∷ []) ++ bytes_of false 8 5)) ≡ good 21)
-    × (unit_of four 1 (1 ∷ 0x11 ∷ 0 ∷ 0xB1 ∷ 0x42 ∷ 0x16 ∷ 0 ∷ 0 ∷ 0 ∷ []) (unit_four ((1 ∷ 0x14 ∷ []) ++ bytes_of false 8 5)) ≡ refuse 12)
-    × (unit_of four 1 (1 ∷ 0x11 ∷ 0 ∷ 0xB1 ∷ 0x42 ∷ 0x16 ∷ 0 ∷ 0 ∷ 0 ∷ []) (unit_four ((1 ∷ 0x16 ∷ 7 ∷ []) ++ bytes_of false 8 5)) ≡ refuse 12)
+    × (unit_of four 1 (1 ∷ 0x11 ∷ 0 ∷ 0xB1 ∷ 0x42 ∷ 0x16 ∷ 0 ∷ 0 ∷ 0 ∷ []) (unit_four ((1 ∷ 0x14 ∷ []) ++ bytes_of false 8 5)) ≡ Err 12)
+    × (unit_of four 1 (1 ∷ 0x11 ∷ 0 ∷ 0xB1 ∷ 0x42 ∷ 0x16 ∷ 0 ∷ 0 ∷ 0 ∷ []) (unit_four ((1 ∷ 0x16 ∷ 7 ∷ []) ++ bytes_of false 8 5)) ≡ Err 12)
     × (root_of (3 ∷ 0x16 ∷ []) (0x0B ∷ 9 ∷ []) ≡ good 22)
-    × (root_of (3 ∷ 0x16 ∷ []) (0x16 ∷ 0x0B ∷ 9 ∷ []) ≡ refuse 12)
+    × (root_of (3 ∷ 0x16 ∷ []) (0x16 ∷ 0x0B ∷ 9 ∷ []) ≡ Err 12)
     -- the form behind an indirect one is padded in three bytes, and in four
     × (root_of (3 ∷ 0x16 ∷ []) (0x8B ∷ 0x80 ∷ 0 ∷ 9 ∷ []) ≡ good 24)
-    × (root_of (3 ∷ 0x16 ∷ []) (0x8B ∷ 0x80 ∷ 0x80 ∷ 0 ∷ 9 ∷ []) ≡ refuse 12)
+    × (root_of (3 ∷ 0x16 ∷ []) (0x8B ∷ 0x80 ∷ 0x80 ∷ 0 ∷ 9 ∷ []) ≡ Err 12)
     -- the first 2131 states the identity, and a later one may have any form
     × (unit_of four 1 (1 ∷ 0x11 ∷ 0 ∷ 0xB1 ∷ 0x42 ∷ 7 ∷ 0xB1 ∷ 0x42 ∷ 7 ∷ 0xB1 ∷ 0x42 ∷ 5 ∷ 0 ∷ 0 ∷ 0 ∷ []) (unit_four ((1 ∷ []) ++ bytes_of false 8 5 ++ fill 10)) ≡ good 30)
     -- none at all; 2132 and 2130 state none
-    × (unit_of four 1 (1 ∷ 0x11 ∷ 0 ∷ 0 ∷ 0 ∷ 0 ∷ []) (unit_four ((1 ∷ []) ++ bytes_of false 8 5)) ≡ refuse 12)
-    × (unit_of four 1 (1 ∷ 0x11 ∷ 0 ∷ 0xB2 ∷ 0x42 ∷ 7 ∷ 0 ∷ 0 ∷ 0 ∷ []) (unit_four ((1 ∷ []) ++ bytes_of false 8 5)) ≡ refuse 12)
-    × (unit_of four 1 (1 ∷ 0x11 ∷ 0 ∷ 0xB0 ∷ 0x42 ∷ 7 ∷ 0 ∷ 0 ∷ 0 ∷ []) (unit_four ((1 ∷ []) ++ bytes_of false 8 5)) ≡ refuse 12)
+    × (unit_of four 1 (1 ∷ 0x11 ∷ 0 ∷ 0 ∷ 0 ∷ 0 ∷ []) (unit_four ((1 ∷ []) ++ bytes_of false 8 5)) ≡ Err 12)
+    × (unit_of four 1 (1 ∷ 0x11 ∷ 0 ∷ 0xB2 ∷ 0x42 ∷ 7 ∷ 0 ∷ 0 ∷ 0 ∷ []) (unit_four ((1 ∷ []) ++ bytes_of false 8 5)) ≡ Err 12)
+    × (unit_of four 1 (1 ∷ 0x11 ∷ 0 ∷ 0xB0 ∷ 0x42 ∷ 7 ∷ 0 ∷ 0 ∷ 0 ∷ []) (unit_four ((1 ∷ []) ++ bytes_of false 8 5)) ≡ Err 12)
     -- the table stands at the header's offset, here 3; at the end of abbrev and behind it there is none
     × (unit_of four 1 ((0x55 ∷ 0x55 ∷ 0x55 ∷ []) ++ stated ++ (0 ∷ [])) (offset_by 3) ≡ good 20)
-    × (unit_of four 1 (stated ++ (0 ∷ [])) (offset_by 9) ≡ refuse 12)
-    × (unit_of four 1 (stated ++ (0 ∷ [])) (offset_by 10) ≡ refuse 12)
+    × (unit_of four 1 (stated ++ (0 ∷ [])) (offset_by 9) ≡ Err 12)
+    × (unit_of four 1 (stated ++ (0 ∷ [])) (offset_by 10) ≡ Err 12)
 
 -- ---- 11
 -- a header of version 5, by its length, type and address size, and eight bytes behind the common fields, with nothing behind them
@@ -185,45 +182,45 @@ abbrev pub Headers : Type 0
 Headers =
     -- version 5: a compilation's header, alone; a byte of it less; a type's needs a type offset, wherever that leads
     (unit_of five 1 [] (header_five 16 4 8) ≡ read 20 1 7)
-    × (unit_of five 1 [] (header_five 15 4 8) ≡ refuse 11)
-    × (unit_of five 1 [] (header_five 16 2 8) ≡ refuse 11)
-    × (unit_of five 1 [] (header_five 16 6 8) ≡ refuse 11)
+    × (unit_of five 1 [] (header_five 15 4 8) ≡ Err 11)
+    × (unit_of five 1 [] (header_five 16 2 8) ≡ Err 11)
+    × (unit_of five 1 [] (header_five 16 6 8) ≡ Err 11)
     × (unit_of five 1 [] (header_five 20 6 8 ++ numbers_of false 4 (0xFFFF_FFFF ∷ [])) ≡ read 24 2 7)
-    × (unit_of five 1 [] (header_five 19 6 8 ++ numbers_of false 4 (0xFFFF_FFFF ∷ [])) ≡ refuse 11)
+    × (unit_of five 1 [] (header_five 19 6 8 ++ numbers_of false 4 (0xFFFF_FFFF ∷ [])) ≡ Err 11)
     -- the same in types of version 4; in info the header may be all, and then there is no root
     × (unit_of four 2 [] (signed_four 19 8 0xFFFF_FFFF) ≡ read 23 2 7)
-    × (unit_of four 2 [] (signed_four 18 8 0xFFFF_FFFF) ≡ refuse 11)
-    × (unit_of four 1 (stated ++ (0 ∷ [])) (unit_four []) ≡ refuse 12)
-    × (unit_of four 2 [] (unit_four []) ≡ refuse 11)
+    × (unit_of four 2 [] (signed_four 18 8 0xFFFF_FFFF) ≡ Err 11)
+    × (unit_of four 1 (stated ++ (0 ∷ [])) (unit_four []) ≡ Err 12)
+    × (unit_of four 2 [] (unit_four []) ≡ Err 11)
     -- the common fields are there: 12 bytes in version 5, 11 in version 4
-    × (unit_of five 1 [] (header_five 8 1 8) ≡ refuse 12)
-    × (unit_of five 1 [] (header_five 7 1 8) ≡ refuse 11)
-    × (unit_of four 1 [] (bytes_of false 4 6 ++ (4 ∷ 0 ∷ 0 ∷ 0 ∷ 0 ∷ 0 ∷ 8 ∷ [])) ≡ refuse 11)
+    × (unit_of five 1 [] (header_five 8 1 8) ≡ Err 12)
+    × (unit_of five 1 [] (header_five 7 1 8) ≡ Err 11)
+    × (unit_of four 1 [] (bytes_of false 4 6 ++ (4 ∷ 0 ∷ 0 ∷ 0 ∷ 0 ∷ 0 ∷ 8 ∷ [])) ≡ Err 11)
     -- another address size than the object's; it comes before 12
-    × (unit_of five 1 [] (header_five 16 4 4) ≡ refuse 11)
-    × (unit_of five 1 [] (header_five 16 1 4) ≡ refuse 11)
-    × (unit_of four 2 [] (signed_four 19 4 0) ≡ refuse 11)
+    × (unit_of five 1 [] (header_five 16 4 4) ≡ Err 11)
+    × (unit_of five 1 [] (header_five 16 1 4) ≡ Err 11)
+    × (unit_of four 2 [] (signed_four 19 4 0) ≡ Err 11)
     × (unit_of short_addresses 1 [] (header_five 16 4 4) ≡ read 20 1 7)
-    × (unit_of short_addresses 1 [] (header_five 16 4 8) ≡ refuse 11)
+    × (unit_of short_addresses 1 [] (header_five 16 4 8) ≡ Err 11)
     -- a length that ends behind the section; a section that ends in the length
-    × (unit_of five 1 [] (header_five 17 4 8) ≡ refuse 11)
-    × (unit_of five 1 [] (0 ∷ 0 ∷ 0 ∷ []) ≡ refuse 11)
+    × (unit_of five 1 [] (header_five 17 4 8) ≡ Err 11)
+    × (unit_of five 1 [] (0 ∷ 0 ∷ 0 ∷ []) ≡ Err 11)
     -- reserved lengths, the first and the last; in width 8 nothing but FFFFFFFF stands in front of the length
-    × (unit_size five (bytes_of false 4 0xFFFF_FFFF) ≡ refuse 11)
-    × (unit_size wide (numbers_of false 4 (16 ∷ 7 ∷ 0 ∷ [])) ≡ refuse 11)
-    × (unit_size wide (numbers_of false 4 (0xFFFF_FFFF ∷ 7 ∷ [])) ≡ refuse 11)
+    × (unit_size five (bytes_of false 4 0xFFFF_FFFF) ≡ Err 11)
+    × (unit_size wide (numbers_of false 4 (16 ∷ 7 ∷ 0 ∷ [])) ≡ Err 11)
+    × (unit_size wide (numbers_of false 4 (0xFFFF_FFFF ∷ 7 ∷ [])) ≡ Err 11)
 
 abbrev pub Examples : Type 0
 Examples =
     -- tags 11 and 41, and another one
     (unit_of four 1 (table 0x11) (unit_four root) ≡ read 107 1 0x0102_0304_0506_0708)
     × (unit_of four 1 (table 0x41) (unit_four root) ≡ read 107 1 0x0102_0304_0506_0708)
-    × (unit_of four 1 (table 0x42) (unit_four root) ≡ refuse 12)
+    × (unit_of four 1 (table 0x42) (unit_four root) ≡ Err 12)
     -- each form alone
     × (map (λ v. unit_of four 1 (single v) (unit_four (valued v))) values ≡ map (λ v. read (20 + length v.1) 1 0x0102_0304_0506_0708) values)
     -- the last attribute must end in the unit
     × (unit_of four 1 ((1 ∷ 0x11 ∷ 0 ∷ 0xB1 ∷ 0x42 ∷ 7 ∷ 3 ∷ 5 ∷ 0 ∷ 0 ∷ 0 ∷ [])) (unit_four (1 ∷ fill 10)) ≡ read 22 1 0x5555_5555_5555_5555)
-    × (unit_of four 1 ((1 ∷ 0x11 ∷ 0 ∷ 0xB1 ∷ 0x42 ∷ 7 ∷ 3 ∷ 5 ∷ 0 ∷ 0 ∷ 0 ∷ [])) (unit_four (1 ∷ fill 9)) ≡ refuse 12)
+    × (unit_of four 1 ((1 ∷ 0x11 ∷ 0 ∷ 0xB1 ∷ 0x42 ∷ 7 ∷ 3 ∷ 5 ∷ 0 ∷ 0 ∷ 0 ∷ [])) (unit_four (1 ∷ fill 9)) ≡ Err 12)
     -- in types: the signature
     × (unit_of four 2 [] (bytes_of false 4 19 ++ (4 ∷ 0 ∷ 0 ∷ 0 ∷ 0 ∷ 0 ∷ 8 ∷ []) ++ numbers_of false 4 (7 ∷ 0 ∷ 0 ∷ [])) ≡ read 23 2 7)
     -- version 5: types 4 and 5 are compilations, 2 and 6 types, others have no identity
@@ -231,21 +228,21 @@ Examples =
     × (unit_of five 1 [] (unit_five 5) ≡ read 24 1 7)
     × (unit_of five 1 [] (unit_five 2) ≡ read 24 2 7)
     × (unit_of five 1 [] (unit_five 6) ≡ read 24 2 7)
-    × (unit_of five 1 [] (unit_five 1) ≡ refuse 12)
-    × (unit_of five 1 [] (unit_five 3) ≡ refuse 12)
+    × (unit_of five 1 [] (unit_five 1) ≡ Err 12)
+    × (unit_of five 1 [] (unit_five 3) ≡ Err 12)
     -- a header of another version, and identity 0
-    × (unit_of four 1 [] (unit_five 4) ≡ refuse 11)
-    × (unit_of five 1 [] (numbers_of false 4 (16 ∷ 0x805_0005 ∷ 0 ∷ 0 ∷ 0 ∷ [])) ≡ refuse 13)
+    × (unit_of four 1 [] (unit_five 4) ≡ Err 11)
+    × (unit_of five 1 [] (numbers_of false 4 (16 ∷ 0x805_0005 ∷ 0 ∷ 0 ∷ 0 ∷ [])) ≡ Err 13)
     -- reserved lengths
-    × (unit_size five (bytes_of false 4 0xFFFF_FFEF) ≡ pass 0xFFFF_FFF3)
-    × (unit_size five (bytes_of false 4 0xFFFF_FFF0) ≡ refuse 11)
-    × (unit_size five (bytes_of false 4 0xFFFF_FFFE) ≡ refuse 11)
-    × (unit_size wide (numbers_of false 4 (0xFFFF_FFFF ∷ 7 ∷ 0 ∷ [])) ≡ pass 19)
-    × (unit_size wide (numbers_of false 4 (0xFFFF_FFFE ∷ 7 ∷ 0 ∷ [])) ≡ refuse 11)
+    × (unit_size five (bytes_of false 4 0xFFFF_FFEF) ≡ Ok 0xFFFF_FFF3)
+    × (unit_size five (bytes_of false 4 0xFFFF_FFF0) ≡ Err 11)
+    × (unit_size five (bytes_of false 4 0xFFFF_FFFE) ≡ Err 11)
+    × (unit_size wide (numbers_of false 4 (0xFFFF_FFFF ∷ 7 ∷ 0 ∷ [])) ≡ Ok 19)
+    × (unit_size wide (numbers_of false 4 (0xFFFF_FFFE ∷ 7 ∷ 0 ∷ [])) ≡ Err 11)
 
 pub examples : Examples
 unfolding
-    part little number number_at little_of bytes_of numbers_of joined any has distinct zero_together ◌>>=◌ require groups short unsigned signed_size
+    part little number number_at little_of bytes_of numbers_of has distinct zero_together ◌>>=◌ require groups short unsigned signed_size
     attribute_at attributes_then attributes_from attributes_of declaration_at declarations_then declarations_from declarations_of declaration_of forms
     width_in zero_ended value_size needed plain_value value_of identity_at identity_in root_tag root_identity marked length_field length_stated
     length_good unit_size is_five address_place common_size behind_common identity_five identity_four identity_of unit_by unit_of
@@ -253,7 +250,7 @@ examples = (refl, refl, refl, refl, refl, refl, refl, refl, refl, refl, refl, re
 
 pub tables : Tables
 unfolding
-    part little number number_at little_of bytes_of numbers_of joined any has distinct zero_together ◌>>=◌ require groups short unsigned signed_size
+    part little number number_at little_of bytes_of numbers_of has distinct zero_together ◌>>=◌ require groups short unsigned signed_size
     attribute_at attributes_then attributes_from attributes_of declaration_at declarations_then declarations_from declarations_of declaration_of forms
     width_in zero_ended value_size needed plain_value value_of identity_at identity_in root_tag root_identity marked length_field length_stated
     length_good unit_size is_five address_place common_size behind_common identity_five identity_four identity_of unit_by unit_of
@@ -261,7 +258,7 @@ tables = (refl, refl, refl, refl, refl, refl, refl, refl, refl, refl, refl, refl
 
 pub roots : Roots
 unfolding
-    part little number number_at little_of bytes_of numbers_of joined any has distinct zero_together ◌>>=◌ require groups short unsigned signed_size
+    part little number number_at little_of bytes_of numbers_of has distinct zero_together ◌>>=◌ require groups short unsigned signed_size
     attribute_at attributes_then attributes_from attributes_of declaration_at declarations_then declarations_from declarations_of declaration_of forms
     width_in zero_ended value_size needed plain_value value_of identity_at identity_in root_tag root_identity marked length_field length_stated
     length_good unit_size is_five address_place common_size behind_common identity_five identity_four identity_of unit_by unit_of
@@ -269,7 +266,7 @@ roots = (refl, refl, refl, refl, refl, refl, refl, refl, refl, refl, refl, refl,
 
 pub headers : Headers
 unfolding
-    part little number number_at little_of bytes_of numbers_of joined any has distinct zero_together ◌>>=◌ require groups short unsigned signed_size
+    part little number number_at little_of bytes_of numbers_of has distinct zero_together ◌>>=◌ require groups short unsigned signed_size
     attribute_at attributes_then attributes_from attributes_of declaration_at declarations_then declarations_from declarations_of declaration_of forms
     width_in zero_ended value_size needed plain_value value_of identity_at identity_in root_tag root_identity marked length_field length_stated
     length_good unit_size is_five address_place common_size behind_common identity_five identity_four identity_of unit_by unit_of

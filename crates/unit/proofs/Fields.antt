@@ -1,14 +1,8 @@
 -- The fields of a unit's header: their places, and the size of a unit that ends in its section.
-use mathlib.Core.Path.{◌≡◌, refl, sym, ap, ◌∙◌}
-use mathlib.Core.Bool.{Bool, true, false}
-use mathlib.Core.Logic.{inl, inr, ⊎_elim}
-use mathlib.Core.List.{List}
-use Prim.Native.Nat.{ℕ, ◌+◌, ◌≤◌, ◌<◌}
-use native.Mathlib.Omega.{arith}
-use lib.Dec.{eqb, leb, ltb}
-use lib.ListN.{length, take, get_or}
-use borrow.Author.Tests.{ne_eqb, le-leb, lt-leb}
-use Rattle.octets.specs.Checked.{pass, refuse, ◌>>=◌, require}
+use Rattle.std.proofs.Common.{◌≡◌, refl, sym, ap, ◌∙◌, Bool, true, false, inl, inr, ⊎_elim, List, ℕ, ◌+◌, ◌≤◌, ◌<◌, arith, eqb, leb, ltb, length, take, get_or, ne_eqb, le-leb}
+use borrow.Author.Tests.{lt-leb}
+use Rattle.std.specs.Prelude.{Result, Ok, Err}
+use Rattle.octets.specs.Checked.{◌>>=◌, require}
 use Rattle.octets.proofs.Checks.{passes, fails, known, require_pass, pass_inj}
 use Rattle.bundle.specs.Encoding.{Encoding}
 use Rattle.bundle.specs.Encoded.{four, encoding_is}
@@ -78,16 +72,16 @@ module _ (e : Encoding) where
   ]
 
 -- ---- the size of a unit that ends in s
-pub fits_in : (s : List ℕ) (n : ℕ) → n ≤ length s → fits s n ≡ pass n
+pub fits_in : (s : List ℕ) (n : ℕ) → n ≤ length s → fits s n ≡ Ok n
 unfolding fits
 fits_in s n h = passes _ _ _ (le-leb n (length s) h)
 
-fits_out : (s : List ℕ) (n : ℕ) → length s < n → fits s n ≡ refuse 11
+fits_out : (s : List ℕ) (n : ℕ) → length s < n → fits s n ≡ Err 11
 unfolding fits
 fits_out s n h = fails _ _ _ (lt-leb n (length s) h)
 
 -- both tests in a row, and the size judged behind them
-chain : (a b : Bool) (n : ℕ) (s : List ℕ) → (require a 11 >>= (λ _. require b 11 >>= λ _. pass n) >>= fits s) ≡ (require a 11 >>= λ _. (require b 11 >>= λ _. fits s n))
+chain : (a b : Bool) (n : ℕ) (s : List ℕ) → (require a 11 >>= (λ _. require b 11 >>= λ _. Ok n) >>= fits s) ≡ (require a 11 >>= λ _. (require b 11 >>= λ _. fits s n))
 unfolding require ◌>>=◌
 chain true true n s = refl
 chain true false n s = refl
@@ -108,29 +102,29 @@ module _ (e : Encoding) (s : List ℕ) where
 
   -- as the code tests it
   module _ (field : ℕ) (p : field ≡ length_field e) where
-    pub inside_short : length s < field → refuse 11 ≡ unit_inside e s
+    pub inside_short : length s < field → Err 11 ≡ unit_inside e s
     inside_short h = sym (inside_is ∙ fails _ _ _ (lt-leb (length_field e) (length s) (omega arith)))
 
     module _ (h : field ≤ length s) where
       there : leb (length_field e) (length s) ≡ true
       there = le-leb (length_field e) (length s) (omega arith)
 
-      pub inside_bad : length_good e s ≡ false → refuse 11 ≡ unit_inside e s
+      pub inside_bad : length_good e s ≡ false → Err 11 ≡ unit_inside e s
       inside_bad g = sym (inside_is ∙ passes _ _ _ there ∙ fails _ _ _ g)
 
       module _ (g : length_good e s ≡ true) (rest : ℕ) (q : rest ≡ length_stated e s) where
         sum_is : unit_inside e s ≡ fits s (field + rest)
         sum_is = inside_is ∙ passes _ _ _ there ∙ passes _ _ _ g ∙ ap (fits s) (omega arith)
 
-        pub inside_out : length s < field + rest → refuse 11 ≡ unit_inside e s
+        pub inside_out : length s < field + rest → Err 11 ≡ unit_inside e s
         inside_out f = sym (sum_is ∙ fits_out s (field + rest) f)
 
-        pub inside_in : field + rest ≤ length s → pass (field + rest) ≡ unit_inside e s
+        pub inside_in : field + rest ≤ length s → Ok (field + rest) ≡ unit_inside e s
         inside_in f = sym (sum_is ∙ fits_in s (field + rest) f)
 
 -- of a size that is stated: the length starts as the width wants it, and the unit that it counts holds it
-module _ (e : Encoding) (s : List ℕ) (m : ℕ) (q : unit_size e s ≡ pass m) where
-  judged : (length_good e s ≡ true) × (pass (length_field e + length_stated e s) ≡ pass m)
+module _ (e : Encoding) (s : List ℕ) (m : ℕ) (q : unit_size e s ≡ Ok m) where
+  judged : (length_good e s ≡ true) × (◌≡◌ {A = Result ℕ ℕ} (Ok (length_field e + length_stated e s)) (Ok m))
   unfolding unit_size
   judged = require_pass (length_good e s) 11 _ m (require_pass (leb (length_field e) (length s)) 11 _ m q).1
 
@@ -151,13 +145,13 @@ module _ (e : Encoding) (n : ℕ) (s t : List ℕ) (same : take n s ≡ take n t
       (λ w. good_wide e s w ∙ marked_same n s t same e.big (omega (arith, field_least e)) ∙ sym (good_wide e t w))
       (known (eqb e.width 4))
 
-  pub size_same : (m : ℕ) → length_field e ≤ length t → unit_size e s ≡ pass m → unit_size e t ≡ pass m
+  pub size_same : (m : ℕ) → length_field e ≤ length t → unit_size e s ≡ Ok m → unit_size e t ≡ Ok m
   unfolding unit_size
   size_same m l q =
       passes _ _ _ (le-leb (length_field e) (length t) l)
       ∙ passes _ _ _ (sym good_same ∙ size_good e s m q)
-      ∙ ap (λ (k : ℕ). pass (length_field e + k)) (sym (stated_same n s t same e there))
-      ∙ ap pass (size_is e s m q)
+      ∙ ap (λ (k : ℕ). Ok (length_field e + k)) (sym (stated_same n s t same e there))
+      ∙ ap Ok (size_is e s m q)
 
 -- ---- where the identity stands
 module _ (e : Encoding) (home : ℕ) (u : List ℕ) where

@@ -1,17 +1,9 @@
 -- The search for a code in an abbreviation table that is held in a tree.
-use mathlib.Core.Path.{◌≡◌, refl, sym, subst, ap, ◌∙◌}
-use mathlib.Core.Bool.{true, false}
-use mathlib.Core.List.{List, [], ◌∷◌}
-use mathlib.Core.Option.{some, none}
-use Rattle.std.specs.Prelude.{Option, Some, None}
-use Prim.Native.Nat.{ℕ, zero, suc, ◌-◌, ◌+◌, ◌<◌, ◌≤◌}
-use native.Mathlib.Nat.{not-suc-le-zero, le_of_suc-le-suc}
-use native.Mathlib.Omega.{arith}
-use lib.ListN.{length, take, drop, get_or, length-map}
+use Rattle.std.proofs.Common.{◌≡◌, refl, sym, subst, ap, ◌∙◌, true, false, List, [], ◌∷◌, ℕ, zero, suc, ◌-◌, ◌+◌, ◌<◌, ◌≤◌, not-suc-le-zero, le_of_suc-le-suc, arith, length, take, drop, get_or, eq-eqb, ne_eqb}
+use Rattle.std.specs.Prelude.{Option, Some, None, Ok}
+use lib.ListN.{length-map}
 use Rattle.std.proofs.lemmas.Option.{none-some, same_Some}
-use borrow.Author.Tests.{eq-eqb, ne_eqb}
 use Rattle.octets.specs.Lists.{has, distinct}
-use Rattle.octets.specs.Checked.{pass}
 use Rattle.octets.proofs.Checks.{pass_inj, bind_pass, require_pass, true_false}
 use Rattle.octets.proofs.Elements.{has_at, has_cons, has_skips, distinct_head, distinct_tail}
 use Rattle.unit.specs.Abbreviations.{Declaration, declarations_of, declaration_of}
@@ -22,7 +14,7 @@ use Rattle.unit.specs.declared.abbreviations.Heading.{Heading}
 use Rattle.unit.proofs.Sizes.{rest}
 
 -- ---- the first declaration of a code, where codes differ
-matched : (d : Declaration) (es : List Declaration) (code : ℕ) → d.code ≡ code → declaration_of (d ∷ es) code ≡ some d
+matched : (d : Declaration) (es : List Declaration) (code : ℕ) → d.code ≡ code → declaration_of (d ∷ es) code ≡ Some d
 unfolding declaration_of
 matched d es code g = rw (declaration_of, eq-eqb d.code code g)
 
@@ -36,7 +28,7 @@ code_at_law (d ∷ ds) zero l = refl
 code_at_law (d ∷ ds) (suc k) l = code_at_law ds k (le_of_suc-le-suc l)
 
 the_declaration : (ds : List Declaration) (k code : ℕ) → distinct (codes_of ds) ≡ true → k < length ds → (get_or ds k no_declaration).code ≡ code
-    → declaration_of ds code ≡ some (get_or ds k no_declaration)
+    → declaration_of ds code ≡ Some (get_or ds k no_declaration)
 the_declaration [] k code e l g = absurd (not-suc-le-zero l)
 the_declaration (d ∷ ds) zero code e l g = matched d ds code g
 the_declaration (d ∷ ds) (suc k) code e l g =
@@ -44,14 +36,14 @@ the_declaration (d ∷ ds) (suc k) code e l g =
     skipped d ds code (λ h. true_false (has_at (codes_of ds) d.code k (rw (length-map ds (λ x. x.code)) m) (code_at_law ds k m ∙ g ∙ sym h)) (distinct_head d.code (codes_of ds) e))
     ∙ the_declaration ds k code (distinct_tail d.code (codes_of ds) e) m g
 
-no_declaration_law : (ds : List Declaration) (code : ℕ) → has (codes_of ds) code ≡ false → declaration_of ds code ≡ none
+no_declaration_law : (ds : List Declaration) (code : ℕ) → has (codes_of ds) code ≡ false → declaration_of ds code ≡ None
 unfolding declaration_of
 no_declaration_law [] code e = refl
 no_declaration_law (d ∷ ds) code e =
     let z : d.code ≡ code → ⊥ = λ h. true_false (has_cons code d.code (codes_of ds) (sym h)) e in
     skipped d ds code z ∙ no_declaration_law ds code (sym (has_skips code d.code (codes_of ds) (λ h. z (sym h))) ∙ e)
 
-read_distinct : (s : List ℕ) (ds : List Declaration) → declarations_of s ≡ pass ds → distinct (codes_of ds) ≡ true
+read_distinct : (s : List ℕ) (ds : List Declaration) → declarations_of s ≡ Ok ds → distinct (codes_of ds) ≡ true
 unfolding declarations_of declarations
 read_distinct s ds e =
     let p = bind_pass (declarations s) _ ds e in
@@ -66,7 +58,7 @@ pub held_rising : (s w : List ℕ) (n : ℕ) → TableHeld s w n → Rising w n
 held_rising s w n t = rw (← counted s w n t) t.held.tree.rising
 
 module _ (s w : List ℕ) (n code : ℕ) (t : TableHeld s w n) where
-  module _ (ds : List Declaration) (e : declarations_of s ≡ pass ds) where
+  module _ (ds : List Declaration) (e : declarations_of s ≡ Ok ds) where
     same : ds ≡ t.declared
     same = pass_inj (sym e ∙ t.read)
 

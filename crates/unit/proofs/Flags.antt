@@ -1,16 +1,8 @@
 -- Runs of flags that are present: they may be passed at once.
-use mathlib.Core.Path.{◌≡◌, refl, sym, ap, ◌∙◌}
-use mathlib.Core.Logic.{◌⊎◌, inl, inr}
-use mathlib.Core.Bool.{Bool, true, false}
-use mathlib.Core.List.{List, [], ◌++◌, append_assoc}
-use mathlib.Core.Option.{Option, some, none}
-use Prim.Native.Nat.{ℕ, ◌+◌, ◌-◌, ◌≤◌}
-use native.Mathlib.Omega.{arith}
-use lib.ListN.{length, take, drop, length-drop}
-use lib.Seq.{drop-append_seam, length-take-le, take-add}
-use borrow.Author.Tests.{eq-eqb, eqb-true}
+use Rattle.std.proofs.Common.{◌≡◌, refl, sym, ap, ◌∙◌, ◌⊎◌, inl, inr, Bool, true, false, List, [], ◌++◌, append_assoc, ℕ, ◌+◌, ◌-◌, ◌≤◌, arith, length, take, drop, length-drop, length-take-le, take-add, eq-eqb, eqb-true}
+use Rattle.std.specs.Prelude.{Option, Some, None, Ok}
+use lib.Seq.{drop-append_seam}
 use Rattle.octets.specs.Lists.{zero_together}
-use Rattle.octets.specs.Checked.{pass}
 use Rattle.octets.proofs.Checks.{pass_inj, bind_pass, require_pass}
 use Rattle.leb128.specs.Leb128.{short}
 use Rattle.leb128.proofs.Local.{taken, local_taken}
@@ -30,7 +22,7 @@ zeros_form : (name form : ℕ) → zero_together name form ≡ true → name ≡
 unfolding zero_together
 zeros_form name form h z = eqb-true form 0 (rw (zero_together, eq-eqb name 0 z) at h)
 
-module _ (t : List ℕ) (a : Attribute) (n : ℕ) (e : attribute_at t ≡ pass (a, n)) where
+module _ (t : List ℕ) (a : Attribute) (n : ℕ) (e : attribute_at t ≡ Ok (a, n)) where
   -- a name of 0 has no other form than 0
   formed : (a.form ≡ 0 → ⊥) → a.name ≡ 0 → ⊥
   unfolding attribute_at
@@ -48,11 +40,11 @@ module _ (t : List ℕ) (a : Attribute) (n : ℕ) (e : attribute_at t ≡ pass (
 abbrev Stays : Bool → ℕ → Type 0
 Stays known name = ((known ≡ false) × (name ≡ 0x2131 → ⊥)) ⊎ (known ≡ true)
 
-stays : (known : Bool) (e : Encoding) (name : ℕ) (v : Value) (s : List ℕ) (seen : Option ℕ) → Stays known name → (known ≡ true → seen ≡ none → ⊥)
-    → identity_at e name v s seen ≡ pass seen
-stays known e name v s (some x) h g = identity_seen e name v s x
-stays known e name v s none (inl h) g = identity_other e name v s h.1
-stays known e name v s none (inr h) g = absurd (g h refl)
+stays : (known : Bool) (e : Encoding) (name : ℕ) (v : Value) (s : List ℕ) (seen : Option ℕ) → Stays known name → (known ≡ true → seen ≡ None → ⊥)
+    → identity_at e name v s seen ≡ Ok seen
+stays known e name v s (Some x) h g = identity_seen e name v s x
+stays known e name v s None (inl h) g = identity_other e name v s h.1
+stays known e name v s None (inr h) g = absurd (g h refl)
 
 module _ (known : Bool) where
   pub quiet_none : Quiet known []
@@ -63,7 +55,7 @@ module _ (known : Bool) where
   unfolding Quiet
   quiet_both q r h g e t s seen k = ap (λ (x : List ℕ). identity_from e x s seen) (append_assoc q r t) ∙ h e (r ++ t) s seen k ∙ g e t s seen k
 
-  module _ (t : List ℕ) (name form n : ℕ) (p : attribute_at t ≡ pass (record { name = name; form = form }, n)) (f : form ≡ 0x19) (h : Stays known name) where
+  module _ (t : List ℕ) (name form n : ℕ) (p : attribute_at t ≡ Ok (record { name = name; form = form }, n)) (f : form ≡ 0x19) (h : Stays known name) where
     quiet_flag : Quiet known (take n t)
     unfolding Quiet
     quiet_flag e r s seen g =

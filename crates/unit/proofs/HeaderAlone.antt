@@ -1,16 +1,9 @@
 -- The header of a unit in info, judged with the address size that it states.
-use mathlib.Core.Path.{◌≡◌, refl, sym, ap, ◌∙◌}
-use mathlib.Core.Bool.{Bool, true, false, ◌&&◌}
-use mathlib.Core.List.{List, []}
-use Prim.Native.Nat.{ℕ, ◌≤◌, ◌<◌}
-use native.Mathlib.Omega.{arith}
+use Rattle.std.proofs.Common.{◌≡◌, refl, sym, ap, ◌∙◌, Bool, true, false, ◌&&◌, List, [], ℕ, ◌≤◌, ◌<◌, arith, eqb, leb, length, take, get_or, get_or-take, length-take-le, eq-eqb, le-leb, leb-true}
 use native.Mathlib.Decide.{ℕ_discrete}
-use lib.Dec.{eqb, leb}
-use lib.ListN.{length, take, get_or}
-use lib.Seq.{get_or-take, length-take-le}
-use borrow.Author.Tests.{eq-eqb, le-leb, lt-leb, leb-true}
+use borrow.Author.Tests.{lt-leb}
 use Rattle.octets.specs.Octets.{number_at}
-use Rattle.octets.specs.Checked.{Check, pass, refuse}
+use Rattle.std.specs.Prelude.{Result, Ok, Err}
 use Rattle.octets.proofs.Checks.{true_false, and_left}
 use Rattle.octets.proofs.Refusals.{Only, only_pass, only_refuse, only_require, only_bind}
 use Rattle.bundle.specs.Encoding.{Encoding}
@@ -68,7 +61,7 @@ module _ (e : Encoding) (s : List ℕ) where
   abbrev own : Encoding
   own = with_address e (stated_address e s)
 
-  not_eleven_law : unit_of own 1 [] s ≡ refuse 11 → refuse 11 ≡ address_of e s
+  not_eleven_law : unit_of own 1 [] s ≡ Err 11 → Err 11 ≡ address_of e s
   unfolding address_of header_passes not_eleven
   not_eleven_law h = rw (address_of, header_passes, h, not_eleven)
 
@@ -76,19 +69,19 @@ module _ (e : Encoding) (s : List ℕ) where
   unfolding unit_inside unit_size fits
   only_inside = only_bind 11 _ _ (only_bind 11 _ _ (only_require _ 11) (λ _. only_bind 11 _ _ (only_require _ 11) (λ _. only_pass 11 _))) (λ n. only_bind 11 _ _ (only_require _ 11) (λ _. only_pass 11 _))
 
-  pub alone_none : unit_inside e s ≡ refuse 11 → refuse 11 ≡ address_of e s
+  pub alone_none : unit_inside e s ≡ Err 11 → Err 11 ≡ address_of e s
   unfolding unit_inside unit_size length_good length_field length_stated with_address
   alone_none h = not_eleven_law (unit_none own 1 [] s h)
 
-  pub alone_not : (k : ℕ) → refuse k ≡ unit_inside e s → refuse k ≡ address_of e s
-  alone_not k h = let same = only_inside.is k (sym h) in rw same (alone_none (sym h ∙ ap refuse same))
+  pub alone_not : (k : ℕ) → Err k ≡ unit_inside e s → Err k ≡ address_of e s
+  alone_not k h = let same = only_inside.is k (sym h) in rw same (alone_none (sym h ∙ ap Err same))
 
-  module _ (n : ℕ) (h : unit_inside e s ≡ pass n) where
-    inside_own : unit_inside own s ≡ pass n
+  module _ (n : ℕ) (h : unit_inside e s ≡ Ok n) where
+    inside_own : unit_inside own s ≡ Ok n
     unfolding unit_inside unit_size length_good length_field length_stated with_address
     inside_own = h
 
-    pub alone_fields : fields_good e (take n s) ≡ false → refuse 11 ≡ address_of e s
+    pub alone_fields : fields_good e (take n s) ≡ false → Err 11 ≡ address_of e s
     unfolding fields_good common_good common_size length_field is_five with_address
     alone_fields g = not_eleven_law (unit_common own 1 [] s n inside_own (take n s) refl (fields_bad (leb (common_size e) (length (take n s))) _ _ g))
 
@@ -128,7 +121,7 @@ module _ (e : Encoding) (s : List ℕ) where
       header_own : header_size own (kind_of own 1 (take n s)) ≡ header_size e (kind_of e 1 (take n s))
       header_own = size_own (kind_of own 1 (take n s)) ∙ ap (header_size e) kind_own
 
-      pub alone_header : length (take n s) < header_size e (kind_of e 1 (take n s)) → refuse 11 ≡ address_of e s
+      pub alone_header : length (take n s) < header_size e (kind_of e 1 (take n s)) → Err 11 ≡ address_of e s
       alone_header f = not_eleven_law (unit_header own 1 [] s n inside_own (take n s) refl good_own (omega (arith, header_own)))
 
       module _ (f : header_size e (kind_of e 1 (take n s)) ≤ length (take n s)) where
@@ -136,17 +129,17 @@ module _ (e : Encoding) (s : List ℕ) where
         whole_own = omega (arith, header_own)
 
         -- whether and how the identity is read
-        read : (c : Check Identity) → identity_by own (kind_of own 1 (take n s)) [] (take n s) ≡ c → not_eleven (unit_of own 1 [] s) ≡ true
+        read : (c : Result Identity ℕ) → identity_by own (kind_of own 1 (take n s)) [] (take n s) ≡ c → not_eleven (unit_of own 1 [] s) ≡ true
         unfolding not_eleven
-        read (refuse m) q =
+        read (Err m) q =
             let twelve : m ≡ 12 = (only_identity_by own (kind_of own 1 (take n s)) [] (take n s)).is m q in
-            ap not_eleven (unit_unreadable own 1 [] s n inside_own (take n s) refl good_own whole_own (q ∙ ap refuse twelve))
-        read (pass i) q = elim (ℕ_discrete i.identity 0) [
+            ap not_eleven (unit_unreadable own 1 [] s n inside_own (take n s) refl good_own whole_own (q ∙ ap Err twelve))
+        read (Ok i) q = elim (ℕ_discrete i.identity 0) [
           | yes z ↦ ap not_eleven (unit_zero own 1 [] s n inside_own (take n s) refl good_own whole_own i q z)
           | no z ↦ ap not_eleven (unit_read own 1 [] s n inside_own (take n s) refl good_own whole_own i q z)
         ]
 
-        pub alone_whole : pass (stated_address e s) ≡ address_of e s
+        pub alone_whole : Ok (stated_address e s) ≡ address_of e s
         unfolding address_of header_passes
         alone_whole = rw (address_of, header_passes, read _ refl)
 

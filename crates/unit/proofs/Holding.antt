@@ -1,9 +1,6 @@
 -- Tables that lent words hold: what stores elsewhere leave of them.
-use mathlib.Core.Path.{◌≡◌, refl, sym, subst, ap, ap₂, ◌∙◌}
-use mathlib.Core.List.{List, []}
-use Prim.Native.Nat.{ℕ, ◌+◌, ◌*◌, ◌^◌, ◌<◌, ◌≤◌}
-use native.Mathlib.Omega.{arith}
-use lib.ListN.{length, take, get_or, length-map, length-take}
+use Rattle.std.proofs.Common.{◌≡◌, refl, sym, subst, ap, ap₂, ◌∙◌, List, [], ℕ, ◌+◌, ◌*◌, ◌^◌, ◌<◌, ◌≤◌, arith, length, take, get_or, length-take}
+use lib.ListN.{length-map}
 use Rattle.octets.specs.Octets.{part}
 use Rattle.octets.proofs.Parts.{length_part, get_d_part}
 use Rattle.unit.specs.Trees.{code_at, carried_at, Rising, Linked, Tree}

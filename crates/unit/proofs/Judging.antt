@@ -1,16 +1,11 @@
 -- A table judged from its front: the declarations met so far, in a tree of their codes.
-use mathlib.Core.Path.{◌≡◌, refl, sym, subst, ap, ◌∙◌}
-use mathlib.Core.Bool.{Bool, true, false}
-use mathlib.Core.List.{List, [], ◌∷◌, ◌++◌, append-nil, append_assoc}
-use mathlib.Core.Option.{some, none}
-use Rattle.std.specs.Prelude.{Ok, Err}
-use Prim.Native.Nat.{ℕ, ◌+◌, ◌*◌, ◌<◌, ◌≤◌}
-use native.Mathlib.Omega.{arith}
+use Rattle.std.proofs.Common.{◌≡◌, refl, sym, subst, ap, ◌∙◌, Bool, true, false, List, [], ◌∷◌, ◌++◌, append-nil, append_assoc, ℕ, ◌+◌, ◌*◌, ◌<◌, ◌≤◌, arith, length, take, drop, length-append, length-drop, take-append-drop, drop_of_length-le, drop-drop, drop_at, take-add, length-take-le}
+use Rattle.std.specs.Prelude.{Ok, Err, Some, None, Result}
 use native.Mathlib.Decide.{dec_le}
-use lib.ListN.{length, take, drop, length-append, length-drop, length-map, get_or-append, take-append-drop, drop_of_length-le}
-use lib.Seq.{drop-drop, drop_at, take-add, length-take-le, get_or-append_seam}
+use lib.ListN.{length-map, get_or-append}
+use lib.Seq.{get_or-append_seam}
 use Rattle.octets.specs.Lists.{has, distinct}
-use Rattle.octets.specs.Checked.{Check, pass, refuse, ◌>>=◌, require}
+use Rattle.octets.specs.Checked.{◌>>=◌, require}
 use Rattle.octets.proofs.Checks.{pass_inj, pass_refuse, then_pass, then_refuse, passes, fails}
 use Rattle.octets.proofs.Joined.{map-append}
 use Rattle.octets.proofs.Elements.{distinct_snoc, distinct_repeats}
@@ -26,24 +21,24 @@ use Rattle.unit.proofs.Local.{ended, ended_front, front_is, front_read, front_mo
 
 -- ---- the declarations of the bytes p, whatever stands behind them
 pub record Met (p : List ℕ) (ds : List Declaration) : Type 0 where
-  pub is : (y : List ℕ) → declarations (p ++ y) ≡ (declarations y >>= λ es. pass (ds ++ es))
+  pub is : (y : List ℕ) → declarations (p ++ y) ≡ (declarations y >>= λ es. Ok (ds ++ es))
 
 met_none : Met [] []
 unfolding ◌>>=◌
 met_none = record { is = λ y. go (declarations y) }
   where
-    go : (m : Check (List Declaration)) → m ≡ (m >>= λ es. pass ([] ++ es))
-    go (pass es) = refl
-    go (refuse k) = refl
+    go : (m : Result (List Declaration) ℕ) → m ≡ (m >>= λ es. Ok ([] ++ es))
+    go (Ok es) = refl
+    go (Err k) = refl
 
-behind_one : (ds : List Declaration) (d : Declaration) (m : Check (List Declaration))
-    → (m >>= before d >>= λ es. pass (ds ++ es)) ≡ (m >>= λ es. pass ((ds ++ (d ∷ [])) ++ es))
+behind_one : (ds : List Declaration) (d : Declaration) (m : Result (List Declaration) ℕ)
+    → (m >>= before d >>= λ es. Ok (ds ++ es)) ≡ (m >>= λ es. Ok ((ds ++ (d ∷ [])) ++ es))
 unfolding ◌>>=◌
-behind_one ds d (pass es) = ap pass (sym (append_assoc ds (d ∷ []) es))
-behind_one ds d (refuse k) = refl
+behind_one ds d (Ok es) = ap Ok (sym (append_assoc ds (d ∷ []) es))
+behind_one ds d (Err k) = refl
 
 -- a declaration more, of the bytes q
-module _ (u q x : List ℕ) (i : u ≡ q ++ x) (d : Coded) (e : declared_at u ≡ pass (some d)) (h : length q ≡ d.place.end) where
+module _ (u q x : List ℕ) (i : u ≡ q ++ x) (d : Coded) (e : declared_at u ≡ Ok (Some d)) (h : length q ≡ d.place.end) where
   abbrev new : Declaration
   new = declared d (table_more u d e).attributes
 
@@ -53,7 +48,7 @@ module _ (u q x : List ℕ) (i : u ≡ q ++ x) (d : Coded) (e : declared_at u �
         let b : d.place.end ≤ length q = omega arith in
         let l : length q ≤ d.place.end = omega arith in
         ap declarations (append_assoc p q y) ∙ m.is (q ++ y)
-        ∙ ap (λ (k : Check (List Declaration)). k >>= λ es. pass (ds ++ es))
+        ∙ ap (λ (k : Result (List Declaration) ℕ). k >>= λ es. Ok (ds ++ es))
         (front_more u q x y i d e b ∙ ap (λ (t : List ℕ). declarations (t ++ y) >>= before new) (drop_of_length-le q l))
         ∙ behind_one ds new (declarations y);
   }
@@ -73,27 +68,27 @@ module _ (u q x : List ℕ) (i : u ≡ q ++ x) (d : Coded) (e : declared_at u �
       }
 
 -- ---- what that says of the table
-judged : (s : List ℕ) → table_good s ≡ passed (declarations s >>= λ ds. (require (distinct (codes_of ds)) 12 >>= λ _. pass ds))
+judged : (s : List ℕ) → table_good s ≡ passed (declarations s >>= λ ds. (require (distinct (codes_of ds)) 12 >>= λ _. Ok ds))
 unfolding table_good declarations_of declarations
 judged s = refl
 
-all_read : (s : List ℕ) (ds : List Declaration) → declarations s ≡ pass ds → distinct (codes_of ds) ≡ true → declarations_of s ≡ pass ds
+all_read : (s : List ℕ) (ds : List Declaration) → declarations s ≡ Ok ds → distinct (codes_of ds) ≡ true → declarations_of s ≡ Ok ds
 unfolding declarations_of declarations
 all_read s ds e g = then_pass _ _ _ e ∙ passes _ _ _ g
 
-pub table_good_law : (s : List ℕ) (ds : List Declaration) → declarations_of s ≡ pass ds → table_good s ≡ true
+pub table_good_law : (s : List ℕ) (ds : List Declaration) → declarations_of s ≡ Ok ds → table_good s ≡ true
 unfolding table_good passed
 table_good_law s ds e = ap passed e
 
-table_refused : (s : List ℕ) (k : ℕ) → declarations s ≡ refuse k → table_good s ≡ false
+table_refused : (s : List ℕ) (k : ℕ) → declarations s ≡ Err k → table_good s ≡ false
 unfolding passed
 table_refused s k e = judged s ∙ ap passed (then_refuse _ _ k e)
 
-table_repeats : (s : List ℕ) (ds : List Declaration) (d : Declaration) (m : Check (List Declaration)) → has (codes_of ds) d.code ≡ true
-    → declarations s ≡ (m >>= λ es. pass ((ds ++ (d ∷ [])) ++ es)) → table_good s ≡ false
+table_repeats : (s : List ℕ) (ds : List Declaration) (d : Declaration) (m : Result (List Declaration) ℕ) → has (codes_of ds) d.code ≡ true
+    → declarations s ≡ (m >>= λ es. Ok ((ds ++ (d ∷ [])) ++ es)) → table_good s ≡ false
 unfolding passed ◌>>=◌
-table_repeats s ds d (refuse k) g e = table_refused s k e
-table_repeats s ds d (pass es) g e = judged s ∙ ap passed (then_pass _ _ _ e ∙ fails _ _ _ again)
+table_repeats s ds d (Err k) g e = table_refused s k e
+table_repeats s ds d (Ok es) g e = judged s ∙ ap passed (then_pass _ _ _ e ∙ fails _ _ _ again)
   where
     again : distinct (codes_of ((ds ++ (d ∷ [])) ++ es)) ≡ false
     again =
@@ -155,13 +150,13 @@ module _ (s w : List ℕ) (at count : ℕ) (j : Judging s w at count) where
   front_length : length (take at s) ≡ at
   front_length = length-take-le at s j.within
 
-  met_here : declarations s ≡ (declarations (drop at s) >>= λ es. pass (j.ds ++ es))
+  met_here : declarations s ≡ (declarations (drop at s) >>= λ es. Ok (j.ds ++ es))
   met_here = ap declarations (sym (take-append-drop at s)) ∙ j.met.is (drop at s)
 
   -- the code of zero ends the table, in n bytes
-  module _ (e : declared_at (drop at s) ≡ pass none) (n : ℕ) (r : (code k : ℕ) → unsigned (drop at s) ≡ pass (code, k) → n ≡ k) where
-    zero : unsigned (drop at s) ≡ pass (0, n)
-    zero = let z = ended (drop at s) e in z.1 ∙ ap (λ (k : ℕ). pass (0, k)) (sym (r 0 z.0 z.1))
+  module _ (e : declared_at (drop at s) ≡ Ok None) (n : ℕ) (r : (code k : ℕ) → unsigned (drop at s) ≡ Ok (code, k) → n ≡ k) where
+    zero : unsigned (drop at s) ≡ Ok (0, n)
+    zero = let z = ended (drop at s) e in z.1 ∙ ap (λ (k : ℕ). Ok (0, k)) (sym (r 0 z.0 z.1))
 
     zero_within : n ≤ length (drop at s)
     zero_within = unsigned_within (drop at s) 0 n zero
@@ -172,16 +167,16 @@ module _ (s w : List ℕ) (at count : ℕ) (j : Judging s w at count) where
     own : take (at + n) s ≡ take at s ++ take n (drop at s)
     own = take-add at n s
 
-    zero_alone : declared_at (take n (drop at s)) ≡ pass none
+    zero_alone : declared_at (take n (drop at s)) ≡ Ok None
     zero_alone =
         ap declared_at (sym (append-nil (take n (drop at s))))
         ∙ ended_front (take n (drop at s)) (drop n (drop at s)) [] n (ap unsigned (take-append-drop n (drop at s)) ∙ zero)
         (omega (arith, length-take-le n (drop at s) zero_within))
 
-    own_read : declarations_of (take (at + n) s) ≡ pass j.ds
+    own_read : declarations_of (take (at + n) s) ≡ Ok j.ds
     own_read =
         all_read (take (at + n) s) j.ds
-        (ap declarations own ∙ j.met.is (take n (drop at s)) ∙ then_pass _ _ _ (table_end (take n (drop at s)) zero_alone) ∙ ap pass (append-nil j.ds)) j.differ
+        (ap declarations own ∙ j.met.is (take n (drop at s)) ∙ then_pass _ _ _ (table_end (take n (drop at s)) zero_alone) ∙ ap Ok (append-nil j.ds)) j.differ
 
     pub judging_end : (size : ℕ) → size ≡ at + n → Judges s w (Ok (record { count = count; size = size }))
     unfolding Judges
@@ -192,11 +187,11 @@ module _ (s w : List ℕ) (at count : ℕ) (j : Judging s w at count) where
           record { declared = j.ds; read = own_read; counted = j.counted; held = rw own (j.held (take n (drop at s))) },
         )
 
-  pub judging_not : (k : ℕ) → declared_at (drop at s) ≡ refuse k → Judges s w (Err Bad)
+  pub judging_not : (k : ℕ) → declared_at (drop at s) ≡ Err k → Judges s w (Err Bad)
   unfolding Judges
   judging_not k e = table_refused s 12 (met_here ∙ then_refuse _ _ 12 (table_not (drop at s) k e))
 
-  module _ (d : Coded) (e : declared_at (drop at s) ≡ pass (some d)) (v : List ℕ) (r : Bool)
+  module _ (d : Coded) (e : declared_at (drop at s) ≡ Ok (Some d)) (v : List ℕ) (r : Bool)
       (a : (cs : List ℕ) → length cs ≡ count → Tree w cs → Added w v cs at d.code r) where
     added : (b : Bool) → r ≡ b → Added w v (codes_of j.ds) at d.code b
     added b i = subst (λ (x : Bool). Added w v (codes_of j.ds) at d.code x) i (a (codes_of j.ds) codes_count (j.held []).tree)

@@ -1,16 +1,9 @@
 -- Reading a table is local: what is read does not change with what stands behind the bytes that it takes.
-use mathlib.Core.Path.{◌≡◌, refl, sym, ap, ap₂, ◌∙◌}
-use mathlib.Core.Bool.{Bool, true, ◌&&◌}
-use mathlib.Core.List.{List, [], ◌∷◌, ◌++◌, append-nil}
-use mathlib.Core.Option.{Option, some, none}
-use Prim.Native.Nat.{ℕ, zero, suc, ◌+◌, ◌≤◌, ◌<◌}
-use native.Mathlib.Omega.{arith}
+use Rattle.std.proofs.Common.{◌≡◌, refl, sym, ap, ap₂, ◌∙◌, Bool, true, ◌&&◌, List, [], ◌∷◌, ◌++◌, append-nil, ℕ, zero, suc, ◌+◌, ◌≤◌, ◌<◌, arith, leb, length, drop, get_or, length-drop, le-leb}
+use Rattle.std.specs.Prelude.{Option, Some, None, Ok}
 use native.Mathlib.Decide.{ℕ_discrete}
-use lib.Dec.{leb}
-use lib.ListN.{length, drop, get_or, length-drop}
 use lib.Seq.{drop-append-le}
-use borrow.Author.Tests.{le-leb}
-use Rattle.octets.specs.Checked.{pass, ◌>>=◌}
+use Rattle.octets.specs.Checked.{◌>>=◌}
 use Rattle.octets.proofs.Checks.{pass_inj, pass_refuse, bind_pass, require_pass, then_pass, passes, and_both, and_right}
 use Rattle.octets.proofs.Options.{some_inj, some_none}
 use Rattle.leb128.specs.Leb128.{short, unsigned}
@@ -35,7 +28,7 @@ attribute_local = record {
       ∙ then_pass _ _ _ (local_behind taken short short_local n.0.1 p x y f.0 f.1 (omega arith)) ∙ f.2;
 }
 
-attributes_front : (k : ℕ) (p x y : List ℕ) (r : List Attribute × ℕ) → attributes_from k (p ++ x) ≡ pass r → r.1 ≤ length p → attributes_of (p ++ y) ≡ pass r
+attributes_front : (k : ℕ) (p x y : List ℕ) (r : List Attribute × ℕ) → attributes_from k (p ++ x) ≡ Ok r → r.1 ≤ length p → attributes_of (p ++ y) ≡ Ok r
 unfolding attributes_from
 attributes_front zero p x y r e h = absurd (pass_refuse r 12 (sym e))
 attributes_front (suc k) p x y r e h =
@@ -99,44 +92,44 @@ place_local = record {
 }
 
 -- a declaration's bytes are p
-pub declared_front : (p x y : List ℕ) (d : Coded) → declared_at (p ++ x) ≡ pass (some d) → d.place.end ≤ length p → declared_at (p ++ y) ≡ pass (some d)
+pub declared_front : (p x y : List ℕ) (d : Coded) → declared_at (p ++ x) ≡ Ok (Some d) → d.place.end ≤ length p → declared_at (p ++ y) ≡ Ok (Some d)
 unfolding declared_at
 declared_front p x y d e h =
-    let c = bind_pass (unsigned (p ++ x)) _ (some d) e in
+    let c = bind_pass (unsigned (p ++ x)) _ (Some d) e in
     elim (ℕ_discrete c.0.0 0) [
       | yes z ↦ some_none (pass_inj (sym e ∙ end_is (p ++ x) c.0.0 c.0.1 c.1 z))
       | no z ↦
-          let q = bind_pass (place_at (drop c.0.1 (p ++ x))) _ (some d) (sym (coded (p ++ x) c.0.0 c.0.1 c.1 z) ∙ e) in
+          let q = bind_pass (place_at (drop c.0.1 (p ++ x))) _ (Some d) (sym (coded (p ++ x) c.0.0 c.0.1 c.1 z) ∙ e) in
           let m : c.0.1 + q.0.end ≡ d.place.end = ap (λ (k : Coded). k.place.end) (some_inj (pass_inj q.2)) in
           coded (p ++ y) c.0.0 c.0.1 (unsigned_local.is p x y c.0 c.1 (omega arith)) z
           ∙ then_pass _ _ _ (local_behind (λ (k : Place). k.end) place_at place_local c.0.1 p x y q.0 q.1 (omega arith)) ∙ q.2
     ]
 
 -- the code of zero that ends a table
-pub ended : (s : List ℕ) → declared_at s ≡ pass none → (n : ℕ) × (unsigned s ≡ pass (0, n))
+pub ended : (s : List ℕ) → declared_at s ≡ Ok None → (n : ℕ) × (unsigned s ≡ Ok (0, n))
 unfolding declared_at
 ended s e =
-    let c = bind_pass (unsigned s) _ none e in
+    let c = bind_pass (unsigned s) _ None e in
     elim (ℕ_discrete c.0.0 0) [
-      | yes z ↦ (c.0.1, c.1 ∙ ap (λ (k : ℕ). pass (k, c.0.1)) z)
+      | yes z ↦ (c.0.1, c.1 ∙ ap (λ (k : ℕ). Ok (k, c.0.1)) z)
       | no z ↦
-          let q = bind_pass (place_at (drop c.0.1 s)) _ none (sym (coded s c.0.0 c.0.1 c.1 z) ∙ e) in
+          let q = bind_pass (place_at (drop c.0.1 s)) _ None (sym (coded s c.0.0 c.0.1 c.1 z) ∙ e) in
           some_none (pass_inj q.2)
     ]
 
-pub ended_front : (p x y : List ℕ) (n : ℕ) → unsigned (p ++ x) ≡ pass (0, n) → n ≤ length p → declared_at (p ++ y) ≡ pass none
+pub ended_front : (p x y : List ℕ) (n : ℕ) → unsigned (p ++ x) ≡ Ok (0, n) → n ≤ length p → declared_at (p ++ y) ≡ Ok None
 ended_front p x y n e h = end_is (p ++ y) 0 n (unsigned_local.is p x y (0, n) e h) refl
 
 -- ---- a table
 -- a declaration in p, which s begins with
-module _ (s p x y : List ℕ) (i : s ≡ p ++ x) (d : Coded) (e : declared_at s ≡ pass (some d)) (h : d.place.end ≤ length p) where
+module _ (s p x y : List ℕ) (i : s ≡ p ++ x) (d : Coded) (e : declared_at s ≡ Ok (Some d)) (h : d.place.end ≤ length p) where
   abbrev f : Fronts s d
   f = table_more s d e
 
-  pub front_is : declared_at (p ++ y) ≡ pass (some d)
+  pub front_is : declared_at (p ++ y) ≡ Ok (Some d)
   front_is = declared_front p x y d (ap declared_at (sym i) ∙ e) h
 
-  pub front_read : attributes_of (drop d.place.start (p ++ y)) ≡ pass (f.attributes, f.size)
+  pub front_read : attributes_of (drop d.place.start (p ++ y)) ≡ Ok (f.attributes, f.size)
   front_read = local_behind taken attributes_of attributes_local d.place.start p x y (f.attributes, f.size) (ap (λ (t : List ℕ). attributes_of (drop d.place.start t)) (sym i) ∙ f.read) (omega (arith, f.whole))
 
   pub front_more : declarations (p ++ y) ≡ (declarations (drop d.place.end p ++ y) >>= before (declared d f.attributes))
@@ -145,24 +138,24 @@ module _ (s p x y : List ℕ) (i : s ≡ p ++ x) (d : Coded) (e : declared_at s 
       let same : g.attributes ≡ f.attributes = ap (λ (r : List Attribute × ℕ). r.0) (pass_inj (sym g.read ∙ front_read)) in
       g.is ∙ ap₂ (λ (t : List ℕ) («as» : List Attribute). declarations t >>= before (declared d «as»)) (drop-append-le d.place.end p y h) same
 
-longer_step : (k : ℕ) → ((t y : List ℕ) (ds : List Declaration) → length t < k → declarations t ≡ pass ds → declarations (t ++ y) ≡ pass ds)
-    → (s y : List ℕ) (ds : List Declaration) → length s ≤ k → declarations s ≡ pass ds → (o : Option Coded) → declared_at s ≡ pass o → declarations (s ++ y) ≡ pass ds
-longer_step k ih s y ds l e none g =
+longer_step : (k : ℕ) → ((t y : List ℕ) (ds : List Declaration) → length t < k → declarations t ≡ Ok ds → declarations (t ++ y) ≡ Ok ds)
+    → (s y : List ℕ) (ds : List Declaration) → length s ≤ k → declarations s ≡ Ok ds → (o : Option Coded) → declared_at s ≡ Ok o → declarations (s ++ y) ≡ Ok ds
+longer_step k ih s y ds l e None g =
     let c = ended s g in
     let c_nil = ap unsigned (append-nil s) ∙ c.1 in
     table_end (s ++ y) (ended_front s [] y c.0 c_nil (unsigned_taken s (0, c.0) c.1).within) ∙ sym (table_end s g) ∙ e
-longer_step k ih s y ds l e (some d) g =
+longer_step k ih s y ds l e (Some d) g =
     let f = table_more s d g in
     let q = bind_pass (declarations (drop d.place.end s)) (before (declared d f.attributes)) ds (sym f.is ∙ e) in
     front_more s s [] y (sym (append-nil s)) d g f.within
     ∙ then_pass _ _ _ (ih (drop d.place.end s) y q.0 (omega (arith, f.least, f.within, length-drop d.place.end s)) q.1) ∙ q.2
 
-longer : (k : ℕ) (s y : List ℕ) (ds : List Declaration) → length s < k → declarations s ≡ pass ds → declarations (s ++ y) ≡ pass ds
+longer : (k : ℕ) (s y : List ℕ) (ds : List Declaration) → length s < k → declarations s ≡ Ok ds → declarations (s ++ y) ≡ Ok ds
 longer zero s y ds h e = absurd (omega arith)
 longer (suc k) s y ds h e = let f = table_front s ds e in longer_step k (longer k) s y ds (omega arith) e f.0 f.1
 
 -- what stands behind a table is not read
-pub table_local : (s y : List ℕ) (ds : List Declaration) → declarations_of s ≡ pass ds → declarations_of (s ++ y) ≡ pass ds
+pub table_local : (s y : List ℕ) (ds : List Declaration) → declarations_of s ≡ Ok ds → declarations_of (s ++ y) ≡ Ok ds
 unfolding declarations_of declarations
 table_local s y ds e =
     let q = bind_pass (declarations s) _ ds e in

@@ -1,19 +1,15 @@
 -- A unit read with abbreviations that are known, in one chain of tests; and one whose abbreviations go by its size.
-use mathlib.Core.Path.{◌≡◌, refl, sym, ap, subst, ◌∙◌}
-use mathlib.Core.Bool.{true, not}
-use mathlib.Core.List.{List}
-use Prim.Native.Nat.{ℕ, ◌≤◌}
-use lib.Dec.{eqb, leb}
-use lib.ListN.{length, take, get_or}
-use borrow.Author.Tests.{eqb-false, leb-true, not-true}
+use Rattle.std.proofs.Common.{◌≡◌, refl, sym, ap, subst, ◌∙◌, true, not, List, ℕ, ◌≤◌, eqb, leb, length, take, get_or, leb-true}
+use borrow.Author.Tests.{eqb-false, not-true}
 use Rattle.octets.specs.Octets.{number_at}
-use Rattle.octets.specs.Checked.{Check, pass, ◌>>=◌, require}
+use Rattle.std.specs.Prelude.{Result, Ok}
+use Rattle.octets.specs.Checked.{◌>>=◌, require}
 use Rattle.octets.proofs.Checks.{bind_pass, require_pass, pass_inj, passes, then_pass}
 use Rattle.bundle.specs.Encoding.{Encoding}
 use Rattle.bundle.specs.InitialLength.{length_field}
 use Rattle.unit.specs.UnitRead.{Identity, UnitRead, unit_size, address_place, common_size, identity_of, unit_by, unit_of}
 
-unfoldable pub plain : Encoding → ℕ → List ℕ → List ℕ → Check UnitRead
+unfoldable pub plain : Encoding → ℕ → List ℕ → List ℕ → Result UnitRead ℕ
 plain e home abbreviations s = do
   size ← unit_size e s
   _ ← require (leb size (length s)) 11
@@ -23,7 +19,7 @@ plain e home abbreviations s = do
   _ ← require (eqb (get_or u (address_place e) 0) e.address) 11
   i ← identity_of e home abbreviations u
   _ ← require (not (eqb i.identity 0)) 13
-  pass (record { size = size; table = i.table; identity = i.identity })
+  Ok (record { size = size; table = i.table; identity = i.identity })
 
 pub unit_plain : (e : Encoding) (home : ℕ) (abbreviations s : List ℕ) → unit_of e home abbreviations s ≡ plain e home abbreviations s
 unfolding unit_of unit_by plain ◌>>=◌
@@ -32,15 +28,15 @@ unit_plain e home abbreviations s = refl
 -- what is known of a unit that was read
 pub record Read (e : Encoding) (home : ℕ) (abbreviations s : List ℕ) (r : UnitRead) : Type 0 where
   pub identity : Identity
-  pub size : unit_size e s ≡ pass r.size
+  pub size : unit_size e s ≡ Ok r.size
   pub within : r.size ≤ length s
   pub header : common_size e ≤ length (take r.size s)
-  pub read : identity_of e home abbreviations (take r.size s) ≡ pass identity
+  pub read : identity_of e home abbreviations (take r.size s) ≡ Ok identity
   pub table : r.table ≡ identity.table
   pub is : r.identity ≡ identity.identity
   pub not_zero : r.identity ≡ 0 → ⊥
 
-pub unit_read : (e : Encoding) (home : ℕ) (abbreviations s : List ℕ) (r : UnitRead) → unit_of e home abbreviations s ≡ pass r → Read e home abbreviations s r
+pub unit_read : (e : Encoding) (home : ℕ) (abbreviations s : List ℕ) (r : UnitRead) → unit_of e home abbreviations s ≡ Ok r → Read e home abbreviations s r
 unfolding plain
 unit_read e home abbreviations s r q =
     let size = bind_pass (unit_size e s) _ r (sym (unit_plain e home abbreviations s) ∙ q) in
@@ -65,12 +61,12 @@ unit_read e home abbreviations s r q =
     })
 
 -- a unit that was read has been read with the abbreviations of its size
-pub record ReadBy (e : Encoding) (home : ℕ) (f : ℕ → Check (List ℕ)) (s : List ℕ) (r : UnitRead) : Type 0 where
+pub record ReadBy (e : Encoding) (home : ℕ) (f : ℕ → Result (List ℕ) ℕ) (s : List ℕ) (r : UnitRead) : Type 0 where
   pub abbreviations : List ℕ
-  pub theirs : f r.size ≡ pass abbreviations
-  pub read : unit_of e home abbreviations s ≡ pass r
+  pub theirs : f r.size ≡ Ok abbreviations
+  pub read : unit_of e home abbreviations s ≡ Ok r
 
-pub read_by_law : (e : Encoding) (home : ℕ) (f : ℕ → Check (List ℕ)) (s : List ℕ) (r : UnitRead) → unit_by e home f s ≡ pass r → ReadBy e home f s r
+pub read_by_law : (e : Encoding) (home : ℕ) (f : ℕ → Result (List ℕ) ℕ) (s : List ℕ) (r : UnitRead) → unit_by e home f s ≡ Ok r → ReadBy e home f s r
 unfolding unit_by plain
 read_by_law e home f s r q =
     let size = bind_pass (unit_size e s) _ r q in
@@ -90,8 +86,8 @@ read_by_law e home f s r q =
       read = unit_plain e home t.0 s ∙ chained t.0 n size.1 a.0 b.0 c.0 d.0 t.2;
     }
   where
-    chained : (table : List ℕ) (n : ℕ) → unit_size e s ≡ pass n → leb n (length s) ≡ true → leb (common_size e) (length (take n s)) ≡ true
+    chained : (table : List ℕ) (n : ℕ) → unit_size e s ≡ Ok n → leb n (length s) ≡ true → leb (common_size e) (length (take n s)) ≡ true
         → eqb (number_at e.big 2 (take n s) (length_field e)) e.version ≡ true → eqb (get_or (take n s) (address_place e) 0) e.address ≡ true
-        → (identity_of e home table (take n s) >>= λ i. (require (not (eqb i.identity 0)) 13 >>= λ _. pass (record { size = n; table = i.table; identity = i.identity }))) ≡ pass r
-        → plain e home table s ≡ pass r
+        → (identity_of e home table (take n s) >>= λ i. (require (not (eqb i.identity 0)) 13 >>= λ _. Ok (record { size = n; table = i.table; identity = i.identity }))) ≡ Ok r
+        → plain e home table s ≡ Ok r
     chained table n p a b c d q = then_pass (unit_size e s) _ n p ∙ passes _ 11 _ a ∙ passes _ 11 _ b ∙ passes _ 11 _ c ∙ passes _ 11 _ d ∙ q

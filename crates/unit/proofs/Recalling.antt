@@ -1,11 +1,5 @@
 -- The search for a table in the directory, and what is recalled.
-use mathlib.Core.Path.{◌≡◌, refl, sym, subst, ap, ◌∙◌}
-use mathlib.Core.Bool.{true, false}
-use mathlib.Core.List.{List, [], ◌∷◌, ◌++◌}
-use Prim.Native.Nat.{ℕ, ◌+◌, ◌-◌, ◌*◌, ◌^◌, ◌<◌, ◌≤◌}
-use native.Mathlib.Omega.{arith}
-use lib.ListN.{length, take, drop, get_or}
-use lib.Seq.{take-take}
+use Rattle.std.proofs.Common.{◌≡◌, refl, sym, subst, ap, ◌∙◌, true, false, List, [], ◌∷◌, ◌++◌, ℕ, ◌+◌, ◌-◌, ◌*◌, ◌^◌, ◌<◌, ◌≤◌, arith, length, take, drop, get_or, take-take}
 use Rattle.octets.specs.Lists.{has, any}
 use Rattle.octets.proofs.Parts.{part_cut}
 use Rattle.unit.specs.Tables.{table_good}
@@ -129,7 +123,7 @@ full_bad e = cc
 
 -- a directory of no entries
 pub fresh_none : (w : List ℕ) (n at : ℕ) → n ≡ 0 → Fresh w n at
-unfolding Fresh has any
+unfolding Fresh has
 fresh_none w n at e [] l t = refl
 fresh_none w n at e (c ∷ cs) l t = absurd (omega arith)
 

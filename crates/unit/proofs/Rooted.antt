@@ -1,16 +1,10 @@
 -- The identity that the root states, by its table, its code, its tag and its attributes.
-use mathlib.Core.Path.{◌≡◌, refl, sym, ap, ◌∙◌}
-use mathlib.Core.Bool.{true, false}
-use mathlib.Core.List.{List}
-use mathlib.Core.Option.{none}
-use Rattle.std.specs.Prelude.{Some, None, Ok, Err}
+use Rattle.std.proofs.Common.{◌≡◌, refl, sym, ap, ◌∙◌, true, false, List, ℕ, ◌+◌, ◌≤◌, ◌<◌, arith, length, drop_of_length-le}
+use Rattle.std.specs.Prelude.{Some, None, Ok, Err, Result}
 use Rattle.numbers.specs.Refused.{number_of}
 use Rattle.numbers.specs.declared.refusals.Refusal.{Refusal}
 use Rattle.numbers.specs.declared.refusals.Refusal.TheVariants.{NoIdentity}
-use Prim.Native.Nat.{ℕ, ◌+◌, ◌≤◌, ◌<◌}
-use native.Mathlib.Omega.{arith}
-use lib.ListN.{length, drop_of_length-le}
-use Rattle.octets.specs.Checked.{Check, pass, refuse, ◌>>=◌}
+use Rattle.octets.specs.Checked.{◌>>=◌}
 use Rattle.octets.proofs.Checks.{true_false, then_pass, then_refuse, passes, fails}
 use Rattle.octets.proofs.Refusals.{Only, only_require, only_bind, only_refuses}
 use Rattle.leb128.specs.Leb128.{unsigned}
@@ -34,32 +28,32 @@ pub only_root_identity : (e : Encoding) (table s : List ℕ) → Only 12 (root_i
 unfolding root_identity
 only_root_identity e table s =
     only_bind 12 _ _ (only_declarations_of table) (λ ds. only_bind 12 _ _ (only_unsigned s) (λ c. only_bind 12 _ _ (only_needed _) (λ d.
-    only_bind 12 _ _ (only_require _ 12) (λ _. only_bind 12 _ _ (only_identity_in e _ _ none) (λ x. only_needed x)))))
+    only_bind 12 _ _ (only_require _ 12) (λ _. only_bind 12 _ _ (only_identity_in e _ _ None) (λ x. only_needed x)))))
 
 -- whatever keeps a root's identity from being read, it is refused by 12, and with it what would be made of the identity
-pub root_refused : {B : Type 0} (e : Encoding) (table s : List ℕ) (f : ℕ → Check B) (n : ℕ) → refuse n ≡ root_identity e table s → refuse 12 ≡ (root_identity e table s >>= f)
-root_refused e table s f n h = sym (then_refuse _ f 12 (sym h ∙ ap refuse ((only_root_identity e table s).is n (sym h))))
+pub root_refused : {B : Type 0} (e : Encoding) (table s : List ℕ) (f : ℕ → Result B ℕ) (n : ℕ) → Err n ≡ root_identity e table s → Err 12 ≡ (root_identity e table s >>= f)
+root_refused e table s f n h = sym (then_refuse _ f 12 (sym h ∙ ap Err ((only_root_identity e table s).is n (sym h))))
 
-passed_false : (ds : List Declaration) → passed (pass ds) ≡ false → ⊥
+passed_false : (ds : List Declaration) → passed (Ok ds) ≡ false → ⊥
 unfolding passed
 passed_false ds h = true_false refl h
 
-bad_table : (table : List ℕ) → table_good table ≡ false → declarations_of table ≡ refuse 12
+bad_table : (table : List ℕ) → table_good table ≡ false → declarations_of table ≡ Err 12
 unfolding table_good
 bad_table table h = only_refuses 12 (declarations_of table) (only_declarations_of table) (λ ds e. passed_false ds (ap passed (sym e) ∙ h))
 
 module _ (e : Encoding) (table s : List ℕ) where
-  pub root_table : table_good table ≡ false → refuse 12 ≡ root_identity e table s
+  pub root_table : table_good table ≡ false → Err 12 ≡ root_identity e table s
   unfolding root_identity table_good
   root_table h = sym (then_refuse _ _ 12 (bad_table table h))
 
 -- ---- as the code finds it
 module _ (table s w : List ℕ) (count : ℕ) (t : TableHeld table w count) where
-  pub found_code : (x : Refusal) → refuse (number_of x) ≡ unsigned s → RootFound table s (Err x)
+  pub found_code : (x : Refusal) → Err (number_of x) ≡ unsigned s → RootFound table s (Err x)
   unfolding root_identity RootFound
   found_code x h e = sym (then_pass _ _ _ t.read ∙ then_refuse _ _ _ (sym h))
 
-  module _ (code n : ℕ) (c : unsigned s ≡ pass (code, n)) where
+  module _ (code n : ℕ) (c : unsigned s ≡ Ok (code, n)) where
     pub found_missing : Finds table code None → RootFound table s (Err NoIdentity)
     unfolding root_identity needed Finds Located RootFound
     found_missing h e = sym (then_pass _ _ _ t.read ∙ then_pass _ _ _ c ∙ then_refuse _ _ 12 (ap needed (h t.declared t.read)))
@@ -85,6 +79,6 @@ module _ (table s w : List ℕ) (count : ℕ) (t : TableHeld table w count) wher
 
 -- an offset behind the end of abbrev: the table does not end
 pub root_past : (e : Encoding) (abbreviations u s : List ℕ) (at : ℕ) → at ≡ number_at e.big e.width u (length_field e + 2) → length abbreviations < at
-    → refuse 12 ≡ root_identity e (table_at e abbreviations u) s
+    → Err 12 ≡ root_identity e (table_at e abbreviations u) s
 unfolding table_at root_identity declarations_of declarations_from ◌>>=◌
 root_past e abbreviations u s at h g = let l : length abbreviations ≤ at = omega arith in rw (← h, drop_of_length-le abbreviations l)

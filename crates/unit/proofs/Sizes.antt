@@ -1,18 +1,11 @@
 -- Sizes of values: those that end in the bytes at hand, and strings.
-use mathlib.Core.Path.{◌≡◌, refl, sym, ap, ◌∙◌}
-use mathlib.Core.Bool.{Bool, cond}
-use mathlib.Core.List.{List, [], ◌∷◌}
-use Rattle.std.specs.Prelude.{Option, Some, None}
+use Rattle.std.proofs.Common.{◌≡◌, refl, sym, ap, ◌∙◌, Bool, cond, List, [], ◌∷◌, ℕ, suc, ◌+◌, ◌-◌, ◌≤◌, ◌<◌, arith, eqb, ltb, length, take, drop, length-drop, take_all, eq-eqb, ne_eqb, le-leb, le-ltb, lt-ltb}
+use Rattle.std.specs.Prelude.{Option, Some, None, Result, Ok, Err}
 use Rattle.std.specs.List.{position_or_len}
-use Prim.Native.Nat.{ℕ, suc, ◌+◌, ◌-◌, ◌≤◌, ◌<◌}
-use native.Mathlib.Omega.{arith}
 use native.Mathlib.Decide.{ℕ_discrete, dec_le}
-use lib.Dec.{eqb, ltb}
-use lib.ListN.{length, take, drop, length-drop}
-use lib.Seq.{take_all}
-use borrow.Author.Tests.{eq-eqb, ne_eqb, le-leb, lt-leb, le-ltb, lt-ltb}
+use borrow.Author.Tests.{lt-leb}
 use Rattle.octets.specs.Octets.{number_at}
-use Rattle.octets.specs.Checked.{Check, pass, refuse, ◌>>=◌}
+use Rattle.octets.specs.Checked.{◌>>=◌}
 use Rattle.octets.proofs.Checks.{pass_refuse, pass_inj, bind_pass, passes, fails, then_pass, then_refuse}
 use Rattle.octets.proofs.Refusals.{Only, only_pass, only_refuse, only_require, only_bind}
 use Rattle.leb128.specs.Leb128.{short, unsigned, signed_size}
@@ -26,26 +19,26 @@ pub rest : (n : ℕ) (s : List ℕ) → take (length s - n) (drop n s) ≡ drop 
 rest n s = take_all (length s - n) (drop n s) (omega (arith, length-drop n s))
 
 -- ---- so many bytes
-pub ends_in : (s : List ℕ) (n : ℕ) → n ≤ length s → ends s n ≡ pass n
+pub ends_in : (s : List ℕ) (n : ℕ) → n ≤ length s → ends s n ≡ Ok n
 unfolding ends
 ends_in s n h = passes _ _ _ (le-leb n (length s) h)
 
-pub ends_out : (s : List ℕ) (n : ℕ) → length s < n → ends s n ≡ refuse 12
+pub ends_out : (s : List ℕ) (n : ℕ) → length s < n → ends s n ≡ Err 12
 unfolding ends
 ends_out s n h = fails _ _ _ (lt-leb n (length s) h)
 
 -- what ends in s anyway
-pub ends_all : (s : List ℕ) (m : Check ℕ) → ((n : ℕ) → m ≡ pass n → n ≤ length s) → (m >>= ends s) ≡ m
+pub ends_all : (s : List ℕ) (m : Result ℕ ℕ) → ((n : ℕ) → m ≡ Ok n → n ≤ length s) → (m >>= ends s) ≡ m
 unfolding ◌>>=◌
-ends_all s (pass n) h = ends_in s n (h n refl)
-ends_all s (refuse k) h = refl
+ends_all s (Ok n) h = ends_in s n (h n refl)
+ends_all s (Err k) h = refl
 
 -- ---- up to a zero byte
-zero_front : (b : ℕ) (s : List ℕ) → b ≡ 0 → zero_ended (b ∷ s) ≡ pass 1
+zero_front : (b : ℕ) (s : List ℕ) → b ≡ 0 → zero_ended (b ∷ s) ≡ Ok 1
 unfolding zero_ended
 zero_front b s e = rw (zero_ended, eq-eqb b 0 e)
 
-zero_more : (b : ℕ) (s : List ℕ) → (b ≡ 0 → ⊥) → zero_ended (b ∷ s) ≡ (zero_ended s >>= λ n. pass (suc n))
+zero_more : (b : ℕ) (s : List ℕ) → (b ≡ 0 → ⊥) → zero_ended (b ∷ s) ≡ (zero_ended s >>= λ n. Ok (suc n))
 unfolding zero_ended
 zero_more b s e = rw (zero_ended, ne_eqb b 0 e)
 
@@ -58,30 +51,30 @@ only_zero_ended (b ∷ s) =
       | no e ↦ rw (zero_more b s e) (only_bind 12 _ _ (only_zero_ended s) (λ n. only_pass 12 (suc n)))
     ]
 
-pub zero_ended_within : (s : List ℕ) (n : ℕ) → zero_ended s ≡ pass n → n ≤ length s
+pub zero_ended_within : (s : List ℕ) (n : ℕ) → zero_ended s ≡ Ok n → n ≤ length s
 unfolding zero_ended
 zero_ended_within [] n e = absurd (pass_refuse n 12 (sym e))
 zero_ended_within (b ∷ s) n e =
     elim (ℕ_discrete b 0) [
       | yes z ↦ omega (arith, pass_inj (sym (zero_front b s z) ∙ e))
       | no z ↦
-          let p = bind_pass (zero_ended s) (λ k. pass (suc k)) n (sym (zero_more b s z) ∙ e) in
+          let p = bind_pass (zero_ended s) (λ k. Ok (suc k)) n (sym (zero_more b s z) ∙ e) in
           omega (arith, zero_ended_within s p.0 p.1, pass_inj p.2)
     ]
 
 -- the first place of a zero byte, as a search answers it
-abbrev pub ended_at : Option ℕ → Check ℕ
-ended_at (Some i) = pass (i + 1)
-ended_at None = refuse 12
+abbrev pub ended_at : Option ℕ → Result ℕ ℕ
+ended_at (Some i) = Ok (i + 1)
+ended_at None = Err 12
 
 abbrev pub first_zero : List ℕ → Option ℕ
 first_zero s = cond (ltb (position_or_len (λ b. eqb b 0) s) (length s)) (Some (position_or_len (λ b. eqb b 0) s)) None
 
-first_later : (p l : ℕ) → ended_at (cond (ltb (1 + p) (suc l)) (Some (1 + p)) None) ≡ (ended_at (cond (ltb p l) (Some p) None) >>= λ n. pass (suc n))
+first_later : (p l : ℕ) → ended_at (cond (ltb (1 + p) (suc l)) (Some (1 + p)) None) ≡ (ended_at (cond (ltb p l) (Some p) None) >>= λ n. Ok (suc n))
 unfolding ◌>>=◌
 first_later p l = elim (dec_le l p) [
   | yes h ↦ rw (le-ltb p l h, le-ltb (1 + p) (suc l) (omega arith))
-  | no h ↦ rw (lt-ltb p l (omega arith), lt-ltb (1 + p) (suc l) (omega arith)) (ap pass (omega arith))
+  | no h ↦ rw (lt-ltb p l (omega arith), lt-ltb (1 + p) (suc l) (omega arith)) (ap Ok (omega arith))
 ]
 
 pub zero_first : (s : List ℕ) → ended_at (first_zero s) ≡ zero_ended s
@@ -93,35 +86,35 @@ zero_first (b ∷ s) = elim (ℕ_discrete b 0) [
 ]
 
 -- a walk over bytes: what is left, behind i of them
-unfoldable pub further : ℕ → Check ℕ → Check ℕ
-further i m = m >>= λ n. pass (i + n)
+unfoldable pub further : ℕ → Result ℕ ℕ → Result ℕ ℕ
+further i m = m >>= λ n. Ok (i + n)
 
-pub further_none : (m : Check ℕ) → further 0 m ≡ m
+pub further_none : (m : Result ℕ ℕ) → further 0 m ≡ m
 unfolding further ◌>>=◌
-further_none (pass n) = ap pass (omega arith)
-further_none (refuse k) = refl
+further_none (Ok n) = ap Ok (omega arith)
+further_none (Err k) = refl
 
 -- ---- numbers, as the code reads them
-pub short_within : (s : List ℕ) (x n : ℕ) → short s ≡ pass (x, n) → n ≤ length s
+pub short_within : (s : List ℕ) (x n : ℕ) → short s ≡ Ok (x, n) → n ≤ length s
 short_within s x n h = (short_taken s (x, n) h).within
 
-pub short_most : (s : List ℕ) (x n : ℕ) → short s ≡ pass (x, n) → n ≤ 3
+pub short_most : (s : List ℕ) (x n : ℕ) → short s ≡ Ok (x, n) → n ≤ 3
 short_most s x n h = (short_taken s (x, n) h).most
 
-pub unsigned_within : (s : List ℕ) (x n : ℕ) → unsigned s ≡ pass (x, n) → n ≤ length s
+pub unsigned_within : (s : List ℕ) (x n : ℕ) → unsigned s ≡ Ok (x, n) → n ≤ length s
 unsigned_within s x n h = (unsigned_taken s (x, n) h).within
 
 module _ (s : List ℕ) where
-  pub uleb_not : (k : ℕ) → unsigned s ≡ refuse k → uleb_within s ≡ refuse k
+  pub uleb_not : (k : ℕ) → unsigned s ≡ Err k → uleb_within s ≡ Err k
   unfolding uleb_within
   uleb_not k h = then_refuse _ _ k (then_refuse _ _ k h)
 
-  pub uleb_block_not : (k : ℕ) → unsigned s ≡ refuse k → uleb_block_within s ≡ refuse k
+  pub uleb_block_not : (k : ℕ) → unsigned s ≡ Err k → uleb_block_within s ≡ Err k
   unfolding uleb_block_within
   uleb_block_not k h = then_refuse _ _ k (then_refuse _ _ k h)
 
-  module _ (x n : ℕ) (h : unsigned s ≡ pass (x, n)) where
-    pub uleb_is : uleb_within s ≡ pass n
+  module _ (x n : ℕ) (h : unsigned s ≡ Ok (x, n)) where
+    pub uleb_is : uleb_within s ≡ Ok n
     unfolding uleb_within
     uleb_is = then_pass _ _ _ (then_pass _ _ _ h) ∙ ends_in s n (unsigned_within s x n h)
 
@@ -130,7 +123,7 @@ module _ (s : List ℕ) where
     uleb_block_is = then_pass _ _ _ (then_pass _ _ _ h)
 
 module _ (big : Bool) (n : ℕ) (s : List ℕ) where
-  pub block_short : length s < n → block_within big n s ≡ refuse 12
+  pub block_short : length s < n → block_within big n s ≡ Err 12
   unfolding block_within
   block_short h = then_refuse _ _ 12 (fails _ _ _ (lt-leb n (length s) h))
 
@@ -164,7 +157,7 @@ module _ (e : Encoding) (s : List ℕ) where
   unfolding size_within value_size
   size_string = sym (ends_all s (zero_ended s) (zero_ended_within s))
 
-  pub size_indirect : refuse 12 ≡ size_within e indirect s
+  pub size_indirect : Err 12 ≡ size_within e indirect s
   unfolding size_within value_size ◌>>=◌
   size_indirect = refl
 

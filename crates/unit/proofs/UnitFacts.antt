@@ -1,15 +1,8 @@
 -- What is known of a unit that was read: its size, its table, its identity.
-use mathlib.Core.Path.{◌≡◌, refl, sym, subst, ◌∙◌}
-use mathlib.Core.Logic.{◌⊎◌, inl, inr, ⊎_elim}
-use mathlib.Core.Bool.{true, false}
-use mathlib.Core.List.{List, [], ◌∷◌}
-use mathlib.Core.Option.{Option, some, none}
-use Prim.Native.Nat.{ℕ, ◌+◌, ◌^◌, ◌<◌, ◌≤◌}
-use native.Mathlib.Omega.{arith}
-use lib.Dec.{eqb, leb}
-use lib.ListN.{length, take, drop}
+use Rattle.std.proofs.Common.{◌≡◌, refl, sym, subst, ◌∙◌, ◌⊎◌, inl, inr, ⊎_elim, true, false, List, [], ◌∷◌, ℕ, ◌+◌, ◌^◌, ◌<◌, ◌≤◌, arith, eqb, leb, length, take, drop}
+use Rattle.std.specs.Prelude.{Option, Some, None, Ok}
 use Rattle.octets.specs.Octets.{number_at}
-use Rattle.octets.specs.Checked.{pass, ◌>>=◌, require}
+use Rattle.octets.specs.Checked.{◌>>=◌, require}
 use Rattle.octets.proofs.Checks.{bind_pass, require_pass, pass_inj, pass_refuse, known}
 use Rattle.octets.proofs.Numbers.{Bytes, bytes_drop, bytes_take, number_at_lt}
 use Rattle.bundle.specs.Encoding.{Encoding}
@@ -27,22 +20,22 @@ use Rattle.unit.proofs.Units.{by_kind, kinds}
 
 -- ---- the root's identity has 64 bits
 abbrev Small : Option ℕ → Type 0
-Small (some x) = x < 2 ^ 64
-Small none = Unit {0}
+Small (Some x) = x < 2 ^ 64
+Small None = Unit {0}
 
 small_stated : (e : Encoding) (v : Value) (s : List ℕ) (r : Option ℕ) → Bytes s
-    → (require (eqb v.form 7) 12 >>= λ _. pass (some (number_at e.big 8 s v.start))) ≡ pass r → Small r
+    → (require (eqb v.form 7) 12 >>= λ _. Ok (Some (number_at e.big 8 s v.start))) ≡ Ok r → Small r
 small_stated e v s r h q =
-    subst Small (pass_inj (require_pass (eqb v.form 7) 12 (λ _. pass (some (number_at e.big 8 s v.start))) r q).1) (number_at_lt e.big 8 s v.start h)
+    subst Small (pass_inj (require_pass (eqb v.form 7) 12 (λ _. Ok (Some (number_at e.big 8 s v.start))) r q).1) (number_at_lt e.big 8 s v.start h)
 
-small_at : (e : Encoding) (name : ℕ) (v : Value) (s : List ℕ) (seen r : Option ℕ) → Bytes s → Small seen → identity_at e name v s seen ≡ pass r → Small r
+small_at : (e : Encoding) (name : ℕ) (v : Value) (s : List ℕ) (seen r : Option ℕ) → Bytes s → Small seen → identity_at e name v s seen ≡ Ok r → Small r
 unfolding identity_at
-small_at e name v s (some x) r h g q = subst Small (pass_inj q) g
-small_at e name v s none r h g q =
+small_at e name v s (Some x) r h g q = subst Small (pass_inj q) g
+small_at e name v s None r h g q =
     ⊎_elim (λ (t : eqb name 0x2131 ≡ true). small_stated e v s r h (rw (identity_at, t) at q))
     (λ (t : eqb name 0x2131 ≡ false). subst Small (pass_inj (rw (identity_at, t) at q)) tt) (known (eqb name 0x2131))
 
-small_in : (e : Encoding) (l : List Attribute) (s : List ℕ) (seen r : Option ℕ) → Bytes s → Small seen → identity_in e l s seen ≡ pass r → Small r
+small_in : (e : Encoding) (l : List Attribute) (s : List ℕ) (seen r : Option ℕ) → Bytes s → Small seen → identity_in e l s seen ≡ Ok r → Small r
 unfolding identity_in
 small_in e [] s seen r h g q = subst Small (pass_inj q) g
 small_in e (a ∷ l) s seen r h g q =
@@ -50,39 +43,39 @@ small_in e (a ∷ l) s seen r h g q =
     let x = bind_pass (identity_at e a.name v.0 s seen) _ r v.2 in
     small_in e l (drop (v.0.start + v.0.size) s) x.0 r (bytes_drop (v.0.start + v.0.size) s h) (small_at e a.name v.0 s seen x.0 h g x.1) x.2
 
-small_needed : (o : Option ℕ) (x : ℕ) → Small o → needed o ≡ pass x → x < 2 ^ 64
+small_needed : (o : Option ℕ) (x : ℕ) → Small o → needed o ≡ Ok x → x < 2 ^ 64
 unfolding needed
-small_needed (some y) x g q = subst (λ (z : ℕ). z < 2 ^ 64) (pass_inj q) g
-small_needed none x g q = absurd (pass_refuse x 12 (sym q))
+small_needed (Some y) x g q = subst (λ (z : ℕ). z < 2 ^ 64) (pass_inj q) g
+small_needed None x g q = absurd (pass_refuse x 12 (sym q))
 
-pub root_small : (e : Encoding) (table s : List ℕ) (x : ℕ) → Bytes s → root_identity e table s ≡ pass x → x < 2 ^ 64
+pub root_small : (e : Encoding) (table s : List ℕ) (x : ℕ) → Bytes s → root_identity e table s ≡ Ok x → x < 2 ^ 64
 unfolding root_identity
 root_small e table s x h q =
     let ds = bind_pass (declarations_of table) _ x q in
     let code = bind_pass (unsigned s) _ x ds.2 in
     let root = bind_pass (needed (declaration_of ds.0 code.0.0)) _ x code.2 in
     let tag = require_pass (root_tag root.0.tag) 12 _ x root.2 in
-    let seen = bind_pass (identity_in e root.0.attributes (drop code.0.1 s) none) _ x tag.1 in
-    small_needed seen.0 x (small_in e root.0.attributes (drop code.0.1 s) none seen.0 (bytes_drop code.0.1 s h) tt seen.1) seen.2
+    let seen = bind_pass (identity_in e root.0.attributes (drop code.0.1 s) None) _ x tag.1 in
+    small_needed seen.0 x (small_in e root.0.attributes (drop code.0.1 s) None seen.0 (bytes_drop code.0.1 s h) tt seen.1) seen.2
 
 -- ---- the table and the identity of a unit
 pub record IdentityFacts (i : Identity) : Type 0 where
   pub tables : (i.table ≡ 1) ⊎ (i.table ≡ 2)
   pub small : i.identity < 2 ^ 64
 
-facts_behind : (e : Encoding) (table n : ℕ) (u : List ℕ) (i : Identity) → Bytes u → (table ≡ 1) ⊎ (table ≡ 2) → behind_common e table n u ≡ pass i → IdentityFacts i
+facts_behind : (e : Encoding) (table n : ℕ) (u : List ℕ) (i : Identity) → Bytes u → (table ≡ 1) ⊎ (table ≡ 2) → behind_common e table n u ≡ Ok i → IdentityFacts i
 unfolding behind_common
 facts_behind e table n u i h t q =
     let r = require_pass (leb (common_size e + n) (length u)) 11 _ i q in
     subst IdentityFacts (pass_inj r.1) (record { tables = t; small = number_at_lt e.big 8 u (common_size e) h })
 
 facts_root : (e : Encoding) (table s : List ℕ) (i : Identity) → Bytes s
-    → (root_identity e table s >>= λ x. pass (record { table = 1; identity = x })) ≡ pass i → IdentityFacts i
+    → (root_identity e table s >>= λ x. Ok (record { table = 1; identity = x })) ≡ Ok i → IdentityFacts i
 facts_root e table s i h q =
-    let r = bind_pass (root_identity e table s) (λ x. pass (record { table = 1; identity = x })) i q in
+    let r = bind_pass (root_identity e table s) (λ x. Ok (record { table = 1; identity = x })) i q in
     subst IdentityFacts (pass_inj r.2) (record { tables = inl refl; small = root_small e table s r.0 h r.1 })
 
-facts_kind : (e : Encoding) (a u : List ℕ) (i : Identity) (k : Kind) → Bytes u → by_kind e k a u ≡ pass i → IdentityFacts i
+facts_kind : (e : Encoding) (a u : List ℕ) (i : Identity) (k : Kind) → Bytes u → by_kind e k a u ≡ Ok i → IdentityFacts i
 unfolding by_kind identity_by
 facts_kind e a u i Compilation h q = facts_behind e 1 8 u i h (inl refl) q
 facts_kind e a u i Signature h q = facts_behind e 2 (8 + e.width) u i h (inr refl) q
@@ -90,7 +83,7 @@ facts_kind e a u i Root h q = facts_root e (table_at e a u) (drop (common_size e
 facts_kind e a u i Other h q = absurd (pass_refuse i 12 (sym q))
 
 -- ---- the unit
-pub size_some : (e : Encoding) (s : List ℕ) (n : ℕ) → unit_size e s ≡ pass n → 4 ≤ n
+pub size_some : (e : Encoding) (s : List ℕ) (n : ℕ) → unit_size e s ≡ Ok n → 4 ≤ n
 size_some e s n q = omega (arith, field_least e, size_field e s n q)
 
 pub record UnitFacts (s : List ℕ) (u : UnitRead) : Type 0 where
@@ -100,7 +93,7 @@ pub record UnitFacts (s : List ℕ) (u : UnitRead) : Type 0 where
   pub small : u.identity < 2 ^ 64
   pub not_zero : u.identity ≡ 0 → ⊥
 
-pub unit_facts : (e : Encoding) (home : ℕ) (abbreviations s : List ℕ) (u : UnitRead) → Bytes s → unit_of e home abbreviations s ≡ pass u → UnitFacts s u
+pub unit_facts : (e : Encoding) (home : ℕ) (abbreviations s : List ℕ) (u : UnitRead) → Bytes s → unit_of e home abbreviations s ≡ Ok u → UnitFacts s u
 unit_facts e home abbreviations s u h q =
     let k = unit_read e home abbreviations s u q in
     let v = take u.size s in

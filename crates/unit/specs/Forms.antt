@@ -1,9 +1,8 @@
 -- The forms that a root may use, with the widths of their values (FORMAT 3.9): those of DWARF 4, 7.5.4, and the two by which GNU tools name addresses and strings.
-use Rattle.std.specs.Prelude.{true, false, List, [], ◌∷◌, ℕ, suc, ◌+◌, length, ◌==◌, nat_le, if◌then◌else◌}
-use Rattle.std.proofs.Math.Option.{Option, some, none}
+use Rattle.std.specs.Prelude.{true, false, List, [], ◌∷◌, ℕ, suc, ◌+◌, length, ◌==◌, nat_le, if◌then◌else◌, Option, Some, None, Result, Ok, Err}
 use Rattle.numbers.specs.Refusals.{no_identity}
 use Rattle.octets.specs.Octets.{number_at}
-use Rattle.octets.specs.Checked.{Check, pass, refuse, ◌>>=◌, require}
+use Rattle.octets.specs.Checked.{◌>>=◌, require}
 use Rattle.leb128.specs.Leb128.{unsigned, signed_size}
 use Rattle.bundle.specs.Encoding.{Encoding}
 
@@ -38,24 +37,24 @@ forms =
     ∷ of 0x20 (fixed 8) ∷ of 0x1F01 uleb ∷ of 0x1F02 uleb ∷ []
 
 unfoldable pub width_in : List Form → ℕ → Option Width
-width_in [] f = none
-width_in (w ∷ ws) f = if w.form == f then some w.width else width_in ws f
+width_in [] f = None
+width_in (w ∷ ws) f = if w.form == f then Some w.width else width_in ws f
 
 -- the bytes up to and with the first zero byte; 12 where there is none
-unfoldable pub zero_ended : List ℕ → Check ℕ
-zero_ended [] = refuse no_identity
-zero_ended (b ∷ s) = if b == 0 then pass 1 else zero_ended s >>= λ n. pass (suc n)
+unfoldable pub zero_ended : List ℕ → Result ℕ ℕ
+zero_ended [] = Err no_identity
+zero_ended (b ∷ s) = if b == 0 then Ok 1 else zero_ended s >>= λ n. Ok (suc n)
 
 -- how many bytes the value of a width takes at the front of s
-unfoldable pub value_size : Encoding → Width → List ℕ → Check ℕ
-value_size e (fixed n) s = pass n
-value_size e address s = pass e.address
-value_size e offset s = pass e.width
-value_size e uleb s = unsigned s >>= λ r. pass r.1
+unfoldable pub value_size : Encoding → Width → List ℕ → Result ℕ ℕ
+value_size e (fixed n) s = Ok n
+value_size e address s = Ok e.address
+value_size e offset s = Ok e.width
+value_size e uleb s = unsigned s >>= λ r. Ok r.1
 value_size e sleb s = signed_size s
 value_size e string s = zero_ended s
-value_size e indirect s = refuse no_identity
+value_size e indirect s = Err no_identity
 value_size e (block n) s = do
   _ ← require (nat_le n (length s)) no_identity
-  pass (n + number_at e.big n s 0)
-value_size e uleb_block s = unsigned s >>= λ r. pass (r.1 + r.0)
+  Ok (n + number_at e.big n s 0)
+value_size e uleb_block s = unsigned s >>= λ r. Ok (r.1 + r.0)

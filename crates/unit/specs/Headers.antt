@@ -1,10 +1,10 @@
 -- The parts of reading a unit, and what the code's values are by the definition.
-use Rattle.std.specs.Prelude.{Bool, true, false, not, ◌&&◌, ◌||◌, List, ℕ, ◌+◌, length, take, drop, ◌==◌, nat_le, slice_index, if◌then◌else◌}
+use Rattle.std.specs.Prelude.{Bool, true, false, not, ◌&&◌, ◌||◌, List, ℕ, ◌+◌, length, take, drop, ◌==◌, nat_le, slice_index, if◌then◌else◌, Result, Ok, Err}
 use Rattle.numbers.specs.Tabled.{table_number}
 use Rattle.numbers.specs.Tables.{type_table, type_unit, skeleton_unit, split_unit, split_type_unit, compilation_table}
 use Rattle.numbers.specs.Sections.{info_code}
 use Rattle.octets.specs.Octets.{number_at}
-use Rattle.octets.specs.Checked.{Check, pass, refuse, ◌>>=◌, require}
+use Rattle.octets.specs.Checked.{◌>>=◌, require}
 use Rattle.numbers.specs.Refusals.{no_identity, bad_header, identity_zero}
 use Rattle.bundle.specs.Encoding.{Encoding}
 use Rattle.bundle.specs.InitialLength.{length_field}
@@ -16,10 +16,10 @@ use Rattle.unit.specs.declared.header.Identity as code
 use Rattle.unit.specs.declared.header.UnitRead as read
 
 -- ---- the size: a unit that ends in s
-unfoldable pub fits : List ℕ → ℕ → Check ℕ
-fits s n = require (nat_le n (length s)) bad_header >>= λ _. pass n
+unfoldable pub fits : List ℕ → ℕ → Result ℕ ℕ
+fits s n = require (nat_le n (length s)) bad_header >>= λ _. Ok n
 
-unfoldable pub unit_inside : Encoding → List ℕ → Check ℕ
+unfoldable pub unit_inside : Encoding → List ℕ → Result ℕ ℕ
 unit_inside e s = unit_size e s >>= fits s
 
 -- ---- the common fields
@@ -59,21 +59,21 @@ signature_at e u = number_at e.big 8 u (common_size e)
 unfoldable pub table_at : Encoding → List ℕ → List ℕ → List ℕ
 table_at e abbreviations u = drop (number_at e.big e.width u (length_field e + 2)) abbreviations
 
-abbrev pub root_stated : Encoding → List ℕ → List ℕ → Check ℕ
+abbrev pub root_stated : Encoding → List ℕ → List ℕ → Result ℕ ℕ
 root_stated e abbreviations u = root_identity e (table_at e abbreviations u) (drop (common_size e) u)
 
-unfoldable pub identity_by : Encoding → Kind → List ℕ → List ℕ → Check Identity
-identity_by e Compilation abbreviations u = pass (record { table = compilation_table; identity = signature_at e u })
-identity_by e Signature abbreviations u = pass (record { table = type_table; identity = signature_at e u })
-identity_by e Root abbreviations u = root_identity e (table_at e abbreviations u) (drop (common_size e) u) >>= λ x. pass (record { table = compilation_table; identity = x })
-identity_by e Other abbreviations u = refuse no_identity
+unfoldable pub identity_by : Encoding → Kind → List ℕ → List ℕ → Result Identity ℕ
+identity_by e Compilation abbreviations u = Ok (record { table = compilation_table; identity = signature_at e u })
+identity_by e Signature abbreviations u = Ok (record { table = type_table; identity = signature_at e u })
+identity_by e Root abbreviations u = root_identity e (table_at e abbreviations u) (drop (common_size e) u) >>= λ x. Ok (record { table = compilation_table; identity = x })
+identity_by e Other abbreviations u = Err no_identity
 
 abbrev pub identity_is : code.Identity → Identity
 identity_is i = record { table = table_number i.table; identity = i.identity }
 
 -- ---- a unit in two parts. `unit_by` reads the one, then its abbreviations, then the other
 -- 11: the size of a unit whose common fields are good
-unfoldable pub head_of : Encoding → List ℕ → Check ℕ
+unfoldable pub head_of : Encoding → List ℕ → Result ℕ ℕ
 head_of e s = do
   size ← unit_size e s
   _ ← require (nat_le size (length s)) bad_header
@@ -81,14 +81,14 @@ head_of e s = do
   _ ← require (nat_le (common_size e) (length u)) bad_header
   _ ← require (number_at e.big 2 u (length_field e) == e.version) bad_header
   _ ← require (slice_index u (address_place e) == e.address) bad_header
-  pass size
+  Ok size
 
 -- 13
-unfoldable pub non_zero : Check Identity → Check Identity
-non_zero m = m >>= λ i. (require (not (i.identity == 0)) identity_zero >>= λ _. pass i)
+unfoldable pub non_zero : Result Identity ℕ → Result Identity ℕ
+non_zero m = m >>= λ i. (require (not (i.identity == 0)) identity_zero >>= λ _. Ok i)
 
 -- 11 by the kind, 12 and 13: the identity of the unit u
-unfoldable pub identity_good : Encoding → ℕ → List ℕ → List ℕ → Check Identity
+unfoldable pub identity_good : Encoding → ℕ → List ℕ → List ℕ → Result Identity ℕ
 identity_good e home abbreviations u = non_zero (identity_of e home abbreviations u)
 
 abbrev pub unit_is : read.UnitRead → UnitRead
@@ -101,7 +101,7 @@ with_address e a = record { big = e.big; version = e.version; width = e.width; a
 unfoldable pub stated_address : Encoding → List ℕ → ℕ
 stated_address e s = slice_index s (address_place e)
 
-unfoldable pub address_of : Encoding → List ℕ → Check ℕ
+unfoldable pub address_of : Encoding → List ℕ → Result ℕ ℕ
 address_of e s = if header_passes (with_address e (stated_address e s)) 1 s
-    then pass (stated_address e s)
-    else refuse bad_header
+    then Ok (stated_address e s)
+    else Err bad_header

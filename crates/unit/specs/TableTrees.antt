@@ -1,9 +1,7 @@
 -- A table that was judged: its declarations in a tree of their codes, whose nodes carry where in the table they stand. What was judged is remembered.
 -- These relations say what the code keeps: no definition of reading units rests on them.
 use Rattle.std.specs.Prelude.{Option, Some, None, Result, Ok, Err, IfSome, ◌≡◌, Bool, true, false, List, [], map, ℕ, ◌+◌, ◌-◌, ◌*◌, ◌/◌, ◌^◌, ◌<◌, ◌≤◌, length, take, drop, slice_index, slice_index_or, if◌then◌else◌}
-use Rattle.std.proofs.Math.Option.{some}
 use Rattle.octets.specs.Octets.{part}
-use Rattle.octets.specs.Checked.{pass}
 use Rattle.unit.specs.Abbreviations.{Declaration, attributes_of, declarations_of}
 use Rattle.unit.specs.Tables.{Coded, declared_at, table_good}
 use Rattle.unit.specs.Runs.{Quiet}
@@ -29,10 +27,10 @@ no_declaration = record { code = 0; tag = 0; attributes = [] }
 pub record Declares (s : List ℕ) (at : ℕ) (d : Declaration) : Type 0 where
   pub coded : Coded
   pub size : ℕ
-  pub is : declared_at (drop at s) ≡ pass (some coded)
+  pub is : declared_at (drop at s) ≡ Ok (Some coded)
   pub tag : d.tag ≡ coded.place.tag
   pub inside : at + coded.place.start ≤ length s
-  pub read : attributes_of (drop (at + coded.place.start) s) ≡ pass (d.attributes, size)
+  pub read : attributes_of (drop (at + coded.place.start) s) ≡ Ok (d.attributes, size)
 
 pub record TableTree (s w : List ℕ) (ds : List Declaration) : Type 0 where
   pub tree : Tree w (codes_of ds)
@@ -41,7 +39,7 @@ pub record TableTree (s w : List ℕ) (ds : List Declaration) : Type 0 where
 -- the words w hold the table s, which has so many declarations
 pub record TableHeld (s w : List ℕ) (count : ℕ) : Type 0 where
   pub declared : List Declaration
-  pub read : declarations_of s ≡ pass declared
+  pub read : declarations_of s ≡ Ok declared
   pub counted : length declared ≡ count
   pub held : TableTree s w declared
 

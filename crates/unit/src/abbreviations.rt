@@ -1,6 +1,6 @@
 // The abbreviation table at the front of lent bytes, read to its zero code. Every fault gives 12.
-ghost use Rattle.std.specs.Prelude.{◌≡◌, true, List, ℕ, ◌≤◌, ◌<◌, ◌^◌, length};
-ghost use Rattle.octets.specs.Checked.{pass, mapped};
+ghost use Rattle.std.specs.Prelude.{◌≡◌, true, List, ℕ, ◌≤◌, ◌<◌, ◌^◌, length, Option, Some, None, Result, Ok, Err};
+ghost use Rattle.octets.specs.Checked.{mapped};
 ghost use Rattle.numbers.specs.Refused.{told};
 ghost use Rattle.numbers.specs.declared.refusals.Refusal.TheVariants.{NoIdentity};
 ghost use Rattle.leb128.specs.Leb128.{unsigned};
@@ -106,7 +106,7 @@ pub fn attribute_at(s: &[u8]) -> Result<Attribute, Refusal>
 // Whether the pair of zeros that ends attributes is in front.
 #[tactic(auto, using(crate::proofs::Attributes::size_none, std::proofs::lemmas::Bool::Decides::nat_tests))]
 fn has_none(s: &[u8]) -> bool
-    ensures { result ≡ true → attributes_size s.now ≡ pass 2 }
+    ensures { result ≡ true → attributes_size s.now ≡ Ok 2 }
 {
     s.len() >= 2 && s[0] == 0 && s[1] == 0
 }
@@ -176,7 +176,7 @@ fn declared_at(s: &[u8]) -> Result<Option<Declaration>, Refusal>
 // The bytes of the code at the front of s. It may be padded, so that a zero code too may take more than one.
 #[tactic(auto, using(crate::proofs::Judging::code_cases))]
 fn code_size(s: &[u8]) -> usize
-    ensures { (code n : ℕ) → unsigned s.now ≡ pass (code, n) → result ≡ n }
+    ensures { (code n : ℕ) → unsigned s.now ≡ Ok (code, n) → result ≡ n }
 {
     match leb128::read_unsigned(s) {
         Ok((_, n)) => n,

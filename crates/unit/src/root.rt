@@ -1,7 +1,6 @@
 // The root of a unit of version 4 in info: its attributes are walked to their end, and the first 2131 hexadecimal states the identity.
-ghost use Rattle.std.specs.Prelude.{◌≡◌, ◌+◌, ◌-◌, ◌≤◌, length, take, drop};
+ghost use Rattle.std.specs.Prelude.{◌≡◌, ◌+◌, ◌-◌, ◌≤◌, length, take, drop, Option, Some, None, Result, Ok, Err};
 ghost use Rattle.std.specs.Option.{is_some};
-ghost use Rattle.std.proofs.Math.Option.{none};
 ghost use Rattle.octets.specs.Checked.{mapped};
 ghost use Rattle.bundle.specs.Encoded.{encoding_is};
 ghost use Rattle.numbers.specs.Refused.{told};
@@ -185,7 +184,7 @@ fn identity_in(
     judged: &mut Judged,
 ) -> Result<u64, Refusal>
     requires { Lies b.now place × Lent b.now codes.old judged.old }
-    ensures is { told result ≡ identity_from (encoding_is e) (span_bytes b.now place) s.now none }
+    ensures is { told result ≡ identity_from (encoding_is e) (span_bytes b.now place) s.now None }
     ensures memory { Remembers b.now codes.new judged.new }
 {
     let mut walk = Walk {

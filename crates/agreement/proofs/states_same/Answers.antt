@@ -1,5 +1,5 @@
 -- `agreement::states_same` meets its contract.
-use mathlib.Core.Path.{◌∙◌}
+use Rattle.std.proofs.Common.{◌∙◌}
 use Rattle.agreement.specs.Agreement.{same_encoding}
 use Rattle.agreement.proofs.Located.{stated}
 use Rattle.agreement.proofs.states_same.Goals as goal

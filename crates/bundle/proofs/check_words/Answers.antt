@@ -1,8 +1,5 @@
 -- `bundle::check_words` meets its contract.
-use mathlib.Core.Path.{◌≡◌, sym, ◌∙◌}
-use mathlib.Core.Bool.{false}
-use native.Mathlib.Omega.{arith}
-use Rattle.std.proofs.Common.{rules}
+use Rattle.std.proofs.Common.{rules, ◌≡◌, sym, ◌∙◌, false, arith}
 use Rattle.octets.specs.Octets.{number_at}
 use Rattle.bundle.proofs.Whole.{head_word, little_head, big_head}
 use Rattle.bundle.proofs.Ends.{head_short, words_head, words_good, words_bad}

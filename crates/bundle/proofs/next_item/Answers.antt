@@ -1,6 +1,5 @@
 -- `bundle::next_item` meets its contract.
-use mathlib.Core.Path.{◌∙◌}
-use native.Mathlib.Omega.{arith}
+use Rattle.std.proofs.Common.{◌∙◌, arith}
 use Rattle.bundle.proofs.Answers.{no_word, an_object, a_section, an_end, another}
 use Rattle.bundle.proofs.next_item.Goals as goal
 use Rattle.bundle.proofs.next_item.Goals.{then-b-at-via-then-b-at, then-b-at-via-else-b-at+then-b-at-lt4}

@@ -1,6 +1,5 @@
 -- `bundle::next_unit_section` meets its contract. The loop's invariant: from here on the same is found. The measure is what is left of the bundle.
-use Prim.Native.Nat.{◌-◌}
-use lib.ListN.{length}
+use Rattle.std.proofs.Common.{◌-◌, length}
 use Rattle.bundle.proofs.Units.{Seeking}
 use Rattle.bundle.proofs.next_unit_section.Given as goal
 

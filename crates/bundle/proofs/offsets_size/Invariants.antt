@@ -1,6 +1,5 @@
 -- `bundle::offsets_size` meets its contract. The loop's invariant: what is counted and what lies ahead are the whole. The measure is what is left of the bundle.
-use Prim.Native.Nat.{◌-◌}
-use lib.ListN.{length}
+use Rattle.std.proofs.Common.{◌-◌, length}
 use Rattle.bundle.proofs.Offsets.{Counted}
 use Rattle.bundle.proofs.offsets_size.Given as goal
 

@@ -1,7 +1,5 @@
 -- `bundle::reach_end` meets its contract. The loop's invariant: the items from here on reach the end just where all do. The measure is what is left of the bundle.
-use mathlib.Core.Path.{◌≡◌}
-use Prim.Native.Nat.{◌-◌}
-use lib.ListN.{length, drop}
+use Rattle.std.proofs.Common.{◌≡◌, ◌-◌, length, drop}
 use Rattle.bundle.specs.Bundle.{items}
 use Rattle.bundle.specs.Next.{ended}
 use Rattle.bundle.proofs.reach_end.Given as goal

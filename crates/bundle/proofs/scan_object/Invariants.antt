@@ -1,6 +1,5 @@
 -- `bundle::scan_object` meets its contract. The loop's invariant: the scan is that of the sections passed. The measure is what is left of the bundle.
-use Prim.Native.Nat.{◌-◌}
-use lib.ListN.{length}
+use Rattle.std.proofs.Common.{◌-◌, length}
 use Rattle.bundle.proofs.Scanning.{Scanned}
 use Rattle.bundle.proofs.scan_object.Given as goal
 

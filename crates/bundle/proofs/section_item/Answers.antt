@@ -1,9 +1,5 @@
 -- `bundle::section_item` meets its contract.
-use mathlib.Core.Path.{◌≡◌, sym, ◌∙◌}
-use Prim.Native.Nat.{◌+◌, ◌-◌, ◌≤◌}
-use native.Mathlib.Omega.{arith}
-use lib.ListN.{length}
-use lib.Dec.{eqb}
+use Rattle.std.proofs.Common.{◌≡◌, sym, ◌∙◌, ◌+◌, ◌-◌, ◌≤◌, arith, length, eqb}
 use Rattle.octets.specs.Octets.{part}
 use Rattle.octets.specs.Lists.{all}
 use Rattle.bundle.specs.Bundle.{filled_up}

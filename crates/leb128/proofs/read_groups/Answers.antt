@@ -1,7 +1,5 @@
 -- `leb128::read_groups` meets its contract. Invariant: from here on the same comes out, and what was read is below the factor.
-use mathlib.Core.Path.{ap, ◌∙◌}
-use Prim.Native.Nat.{ℕ, ◌+◌, ◌*◌}
-use native.Mathlib.Omega.{arith}
+use Rattle.std.proofs.Common.{ap, ◌∙◌, ℕ, ◌+◌, ◌*◌, arith}
 use Rattle.leb128.specs.declared.Groups.TheVariants.{Ended}
 use Rattle.leb128.proofs.Readers.{walked_none, walked_more, nine_groups, walk_cut, walk_ended, walk_open}
 use Rattle.leb128.proofs.read_groups.Goals as goal

@@ -1,7 +1,5 @@
 -- `leb128::read_long` meets its contract.
-use mathlib.Core.Path.{sym, ◌∙◌}
-use native.Mathlib.Omega.{arith}
-use borrow.Author.Tests.{ltb-false}
+use Rattle.std.proofs.Common.{sym, ◌∙◌, arith, ltb-false}
 use Rattle.leb128.proofs.Tenth.{unsigned_nine, unsigned_short, unsigned_large, unsigned_ten, unsigned_cut, open_lt}
 use Rattle.leb128.proofs.read_long.Goals as goal
 

@@ -1,7 +1,5 @@
 -- `leb128::read_short` meets its contract.
-use mathlib.Core.Path.{sym, ◌∙◌}
-use mathlib.Core.Logic.{inl, inr}
-use native.Mathlib.Omega.{arith}
+use Rattle.std.proofs.Common.{sym, ◌∙◌, inl, inr, arith}
 use Rattle.leb128.proofs.Tenth.{short_one, short_value, short_large, short_open, short_cut}
 use Rattle.leb128.proofs.read_short.Goals as goal
 

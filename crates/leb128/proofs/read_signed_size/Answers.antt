@@ -1,7 +1,6 @@
 -- `leb128::read_signed_size` meets its contract.
-use mathlib.Core.Path.{sym, ◌∙◌}
-use native.Mathlib.Omega.{arith}
-use borrow.Author.Tests.{ltb-false, eqb-true, eqb-false}
+use Rattle.std.proofs.Common.{sym, ◌∙◌, arith, ltb-false, eqb-true}
+use borrow.Author.Tests.{eqb-false}
 use Rattle.leb128.proofs.Tenth.{signed_nine, signed_short, signed_large, signed_zero, signed_full, signed_cut}
 use Rattle.leb128.proofs.read_signed_size.Goals as goal
 use Rattle.leb128.proofs.read_signed_size.Goals.{then-b-eq0, else-b-eq0}

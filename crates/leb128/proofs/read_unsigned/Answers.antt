@@ -1,5 +1,5 @@
 -- `leb128::read_unsigned` meets its contract.
-use native.Mathlib.Omega.{arith}
+use Rattle.std.proofs.Common.{arith}
 use Rattle.leb128.proofs.Tenth.{unsigned_one, unsigned_two}
 use Rattle.leb128.proofs.read_unsigned.Goals as goal
 

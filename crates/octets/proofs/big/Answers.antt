@@ -1,5 +1,5 @@
 -- `octets::big` meets its contract. Invariant: from here on the same number comes out as from the front.
-use mathlib.Core.Path.{sym, ◌∙◌}
+use Rattle.std.proofs.Common.{sym, ◌∙◌}
 use Rattle.octets.proofs.Numbers.{big_fits, big_turn, big_end}
 use Rattle.octets.proofs.big.Goals as goal
 

@@ -1,6 +1,5 @@
 -- `octets::big` meets its contract. Invariant: from here on the same number comes out as from the front.
-use mathlib.Core.Path.{◌≡◌}
-use lib.ListN.{drop}
+use Rattle.std.proofs.Common.{◌≡◌, drop}
 use Rattle.octets.specs.Octets.{big_from}
 use Rattle.octets.proofs.big.Given as goal
 

@@ -1,5 +1,5 @@
 -- `octets::bytes_at` meets its contract.
-use mathlib.Core.Path.{◌∙◌}
+use Rattle.std.proofs.Common.{◌∙◌}
 use Rattle.octets.proofs.Parts.{part_cut}
 use Rattle.octets.proofs.bytes_at.Goals as goal
 

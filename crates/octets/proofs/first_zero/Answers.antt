@@ -1,7 +1,5 @@
 -- `octets::first_zero` meets its contract. Invariant: no byte that was passed is zero.
-use Prim.Native.Nat.{◌+◌, ◌≤◌}
-use native.Mathlib.Omega.{arith}
-use lib.ListN.{length}
+use Rattle.std.proofs.Common.{◌+◌, ◌≤◌, arith, length}
 use Rattle.octets.proofs.ZeroBytes.{clear_more, first_found}
 use Rattle.octets.proofs.first_zero.Goals as goal
 use Rattle.octets.proofs.first_zero.Goals.{In-loop-at}

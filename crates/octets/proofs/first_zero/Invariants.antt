@@ -1,6 +1,5 @@
 -- `octets::first_zero` meets its contract. Invariant: no byte that was passed is zero.
-use Prim.Native.Nat.{◌-◌, ◌≤◌}
-use lib.ListN.{length}
+use Rattle.std.proofs.Common.{◌-◌, ◌≤◌, length}
 use Rattle.octets.proofs.ZeroBytes.{Clear}
 use Rattle.octets.proofs.first_zero.Given as goal
 

@@ -1,5 +1,5 @@
 -- `octets::first_zero_singly` meets its contract. Invariant: no byte that was passed is zero.
-use Prim.Native.Nat.{◌+◌}
+use Rattle.std.proofs.Common.{◌+◌}
 use Rattle.octets.proofs.ZeroBytes.{Clear}
 use Rattle.octets.proofs.first_zero_singly.Given as goal
 

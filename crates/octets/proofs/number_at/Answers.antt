@@ -1,7 +1,5 @@
 -- `octets::number_at` meets its contract.
-use mathlib.Core.Path.{◌≡◌}
-use Prim.Native.Nat.{◌+◌, ◌-◌}
-use native.Mathlib.Omega.{arith}
+use Rattle.std.proofs.Common.{◌≡◌, ◌+◌, ◌-◌, arith}
 use Rattle.octets.specs.Octets.{number_at, number, part}
 use Rattle.octets.proofs.number_at.Goals as goal
 

@@ -1,6 +1,5 @@
 -- `octets::put_big` meets its contract. Invariant: what is still to be placed.
-use mathlib.Core.Path.{◌≡◌}
-use Prim.Native.Nat.{◌-◌}
+use Rattle.std.proofs.Common.{◌≡◌, ◌-◌}
 use Rattle.octets.specs.Octets.{big_of, placed}
 use Rattle.octets.proofs.put_big.Given as goal
 

@@ -1,10 +1,5 @@
 -- `octets::put_bytes` meets its contract.
-use mathlib.Core.Path.{◌≡◌, sym}
-use mathlib.Core.List.{append_assoc}
-use Prim.Native.Nat.{◌+◌, ◌-◌}
-use native.Mathlib.Omega.{arith}
-use lib.ListN.{length, take, drop}
-use lib.Seq.{drop-drop}
+use Rattle.std.proofs.Common.{◌≡◌, sym, append_assoc, ◌+◌, ◌-◌, arith, length, take, drop, drop-drop}
 use Rattle.octets.specs.Octets.{placed}
 use Rattle.octets.proofs.put_bytes.Goals as goal
 

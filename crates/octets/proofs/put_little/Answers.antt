@@ -1,7 +1,5 @@
 -- `octets::put_little` meets its contract. Invariant: what is still to be placed.
-use mathlib.Core.Path.{◌≡◌, sym, ◌∙◌}
-use Prim.Native.Nat.{◌+◌, ◌-◌}
-use native.Mathlib.Omega.{arith}
+use Rattle.std.proofs.Common.{◌≡◌, sym, ◌∙◌, ◌+◌, ◌-◌, arith}
 use Rattle.octets.specs.Octets.{little_of}
 use Rattle.octets.proofs.Placed.{placed_none, little_store}
 use Rattle.octets.proofs.put_little.Goals as goal

@@ -1,6 +1,5 @@
 -- `octets::put_little` meets its contract. Invariant: what is still to be placed.
-use mathlib.Core.Path.{◌≡◌}
-use Prim.Native.Nat.{◌+◌, ◌-◌}
+use Rattle.std.proofs.Common.{◌≡◌, ◌+◌, ◌-◌}
 use Rattle.octets.specs.Octets.{little_of, placed}
 use Rattle.octets.proofs.put_little.Given as goal
 

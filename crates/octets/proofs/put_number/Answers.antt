@@ -1,5 +1,5 @@
 -- `octets::put_number` meets its contract.
-use mathlib.Core.Path.{ap, ◌∙◌}
+use Rattle.std.proofs.Common.{ap, ◌∙◌}
 use Rattle.octets.specs.Octets.{bytes_of, placed}
 use Rattle.octets.proofs.Fixed.{low_word}
 use Rattle.octets.proofs.put_number.Goals as goal

@@ -1,8 +1,5 @@
 -- `octets::put_numbers` meets its contract. Invariant: what is still to be placed.
-use mathlib.Core.Path.{◌≡◌, sym, ap, ◌∙◌}
-use Prim.Native.Nat.{ℕ, ◌+◌, ◌*◌, ◌≤◌}
-use native.Mathlib.Omega.{arith}
-use lib.ListN.{length, drop_of_length-le}
+use Rattle.std.proofs.Common.{◌≡◌, sym, ap, ◌∙◌, ℕ, ◌+◌, ◌*◌, ◌≤◌, arith, length, drop_of_length-le}
 use Rattle.octets.specs.Octets.{numbers_of}
 use Rattle.octets.proofs.Placed.{placed_none}
 use Rattle.octets.proofs.Regions.{numbers_step, entry_fits, entry_next}

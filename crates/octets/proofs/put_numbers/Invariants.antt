@@ -1,7 +1,5 @@
 -- `octets::put_numbers` meets its contract. Invariant: what is still to be placed.
-use mathlib.Core.Path.{◌≡◌}
-use Prim.Native.Nat.{◌+◌, ◌*◌}
-use lib.ListN.{drop}
+use Rattle.std.proofs.Common.{◌≡◌, ◌+◌, ◌*◌, drop}
 use Rattle.octets.specs.Octets.{numbers_of, placed}
 use Rattle.octets.proofs.put_numbers.Given as goal
 

@@ -1,5 +1,5 @@
 -- `octets::same_bytes` meets its contract.
-use mathlib.Core.Path.{◌∙◌}
+use Rattle.std.proofs.Common.{◌∙◌}
 use lib.Pointwise.{bytes_decides}
 use Rattle.octets.proofs.Lists.{same_both}
 use Rattle.octets.proofs.same_bytes.Goals as goal

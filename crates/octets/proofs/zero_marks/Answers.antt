@@ -1,5 +1,5 @@
 -- `octets::zero_marks` meets its contract.
-use native.Mathlib.Omega.{arith}
+use Rattle.std.proofs.Common.{arith}
 use Rattle.octets.proofs.ZeroBytes.{marks_fit, marks_are}
 use Rattle.octets.proofs.zero_marks.Goals as goal
 

@@ -1,10 +1,6 @@
 -- Each way out is the definition's answer (`Outcomes`).
-use mathlib.Core.Path.{◌≡◌, refl, sym, ◌∙◌}
-use mathlib.Core.Bool.{true}
-use Prim.Native.Nat.{◌/◌}
-use native.Mathlib.Omega.{arith}
-use lib.ListN.{length}
-use Rattle.octets.specs.Checked.{pass}
+use Rattle.std.proofs.Common.{◌≡◌, refl, sym, ◌∙◌, true, ◌/◌, arith, length}
+use Rattle.std.specs.Prelude.{Ok}
 use Rattle.bundle.specs.Bundle.{Bundle, bundle_of, length_good}
 use Rattle.packer.specs.Objects.{Clearable}
 use Rattle.bundle.proofs.WordsAnswered.{words_readable}
@@ -18,7 +14,7 @@ good : (c : Else-not-length_good) → length_good 4_194_304 c.args.b.now ≡ tru
 good c = sym c.length_good.ensures ∙ c.if-not-length_good.false
 
 -- the words are good
-read : (c : In_ok-big) → (let b = c.args.b.now in (k : Bundle) × (bundle_of b ≡ pass k) × (k.big ≡ c.in_ok-big.big))
+read : (c : In_ok-big) → (let b = c.args.b.now in (k : Bundle) × (bundle_of b ≡ Ok k) × (k.big ≡ c.in_ok-big.big))
 read c = words_readable _ _ c.in_ok-big.ensures
 
 -- work is long enough

@@ -1,5 +1,5 @@
 -- The lower limit, and work of 5,120 words, as the type has it.
-use mathlib.Core.Path.{sym, ◌∙◌}
+use Rattle.std.proofs.Common.{sym, ◌∙◌}
 use Rattle.octets.specs.Octets.{zeros}
 use Rattle.packer.proofs.Clearing.{small_refused, small_packed}
 use Rattle.packer.proofs.pack_small_counted.Goals as goal

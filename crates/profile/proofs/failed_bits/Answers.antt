@@ -1,6 +1,5 @@
 -- `profile::failed_bits` meets its contract: the bits of the conditions passed, from the last one on.
-use native.Mathlib.Omega.{arith}
-use Rattle.std.proofs.Common.{rules}
+use Rattle.std.proofs.Common.{rules, arith}
 use Rattle.profile.proofs.Bits.{passed_small, byte_small}
 use Rattle.profile.proofs.failed_bits.Goals as goal
 

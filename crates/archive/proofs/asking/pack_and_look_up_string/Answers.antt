@@ -1,7 +1,6 @@
 -- `pack_and_look_up_string` meets its contract: by those of packing and of looking up, and the theorem.
-use mathlib.Core.Path.{sym, ap, ◌∙◌}
+use Rattle.std.proofs.Common.{sym, ap, ◌∙◌, length-take-le}
 use Rattle.answers.specs.Outcome.{outcome_as}
-use lib.Seq.{length-take-le}
 use Rattle.packer.proofs.Answered.{package_fits}
 use Rattle.archive.proofs.Packaged.{string_answered, unpacked_told}
 use Rattle.archive.proofs.asking.pack_and_look_up_string.Goals as goal

@@ -1,5 +1,5 @@
 -- `archive::profiling::barthovin_archive_profile` meets its contract.
-use mathlib.Core.Path.{ap}
+use Rattle.std.proofs.Common.{ap}
 use Rattle.profile.specs.Judged.{judged}
 use Rattle.profile.specs.declared.Verdict.{Verdict}
 use Rattle.archive.proofs.profiling.barthovin_archive_profile.Goals as goal

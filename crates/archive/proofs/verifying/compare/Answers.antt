@@ -1,8 +1,5 @@
 -- `archive::verifying::compare` meets its contract.
-use mathlib.Core.Path.{sym, ◌∙◌, subst}
-use mathlib.Core.Logic.{inl}
-use mathlib.Core.List.{List}
-use Prim.Native.Nat.{ℕ}
+use Rattle.std.proofs.Common.{sym, ◌∙◌, subst, inl, List, ℕ}
 use Rattle.octets.specs.Checked.{mapped}
 use Rattle.octets.proofs.Lists.{same_eq, same_ne}
 use Rattle.agreement.specs.Agreement.{IsFault}

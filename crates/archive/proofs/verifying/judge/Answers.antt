@@ -1,10 +1,5 @@
 -- `archive::verifying::judge` meets its contract: by those of packing and of comparing, and the theorem.
-use mathlib.Core.Path.{◌≡◌, sym, ap, ◌∙◌, subst}
-use mathlib.Core.Logic.{◌⊎◌}
-use mathlib.Core.List.{List}
-use Prim.Native.Nat.{ℕ}
-use lib.ListN.{length}
-use lib.Seq.{length-take-le}
+use Rattle.std.proofs.Common.{◌≡◌, sym, ap, ◌∙◌, subst, ◌⊎◌, List, ℕ, length, length-take-le}
 use Rattle.answers.specs.Outcome.{outcome_as}
 use Rattle.package.specs.Pack.{packed}
 use Rattle.packer.proofs.Answered.{package_fits, it, starts}

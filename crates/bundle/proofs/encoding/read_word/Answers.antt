@@ -1,8 +1,5 @@
 -- `read_word` meets its contract.
-use mathlib.Core.Path.{◌≡◌}
-use mathlib.Core.Logic.{◌⊎◌, inl, inr}
-use Prim.Native.Nat.{◌%◌}
-use native.Mathlib.Omega.{arith}
+use Rattle.std.proofs.Common.{◌≡◌, ◌⊎◌, inl, inr, ◌%◌, arith}
 use native.Mathlib.Decide.{ℕ_discrete}
 use Rattle.bundle.specs.Encoding.{encoding_of}
 use Rattle.bundle.proofs.Encodings.{word_passes}

@@ -1,5 +1,5 @@
 -- The slot that a search finds is one of the index's, and its row is one of the rows.
-use mathlib.Core.Path.{sym}
+use Rattle.std.proofs.Common.{sym}
 use Rattle.index.specs.Held.{Well}
 use Rattle.index.proofs.Ends.{found_row, probed_found}
 use Rattle.cases.proofs.indexes.tell_search.Goals as goal

@@ -1,6 +1,5 @@
 -- What is written fits on the page.
-use mathlib.Core.Path.{sym}
-use lib.Seq.{length-take-le}
+use Rattle.std.proofs.Common.{sym, length-take-le}
 use Rattle.sheet.proofs.LawSheet.{told_fits}
 use Rattle.cases.proofs.packages.tell_page.Goals as goal
 

@@ -1,5 +1,5 @@
 -- The index of so many fits the output.
-use mathlib.Core.Path.{ap, ◌∙◌}
+use Rattle.std.proofs.Common.{ap, ◌∙◌}
 use Rattle.kept.specs.Slots.{slots_in}
 use Rattle.kept.specs.declared.slots.TableSlots.{TableSlots}
 use Rattle.cases.proofs.Laws.{index_asks}

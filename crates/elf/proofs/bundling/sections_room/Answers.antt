@@ -2,7 +2,7 @@
 use Rattle.std.proofs.Common.{◌∙◌, ap, sym, arith}
 use Rattle.std.proofs.lemmas.Result.{err_from_is_err_and}
 use Rattle.octets.specs.Lists.{all}
-use Rattle.octets.specs.Checked.{pass, refuse}
+use Rattle.std.specs.Prelude.{Ok, Err}
 use Rattle.elf.specs.Held.{file_is, short_enough, room_sum, header_sections, all_sections}
 use Rattle.elf.proofs.Rooms.{sections_none, room_none, room_good, room_bad, room_is, room_not, room_more, short_more, short_not}
 use Rattle.elf.proofs.Headers.{in_headers}
@@ -10,7 +10,6 @@ use Rattle.elf.proofs.Opened.{room_bound, whole}
 use Rattle.elf.proofs.bundling.sections_room.Goals as goal
 
 pub loop-i-init : goal.loop-i-init
-unfolding all
 loop-i-init c =
     let e = c.args.a.now.file in
     let none = sections_none e.bytes.now e.names.now in
@@ -27,7 +26,7 @@ returns-in_err-total c =
     let e = c.args.a.now.file in
     let p = err_from_is_err_and c.from_residual.result c.from_residual.ensures.1 in
     let r = room_not (header_sections e c.loop-i.i) _ c.in_err-total.ensures in
-    rw (p.1, p.2) (ap refuse r.1 ∙ room_bad (all_sections e) (short_not e.bytes.now e.names.now (file_is e).headers c.loop-i.i (in_headers e c.loop-i.i c.loop-i-test.true) r.0))
+    rw (p.1, p.2) (ap Err r.1 ∙ room_bad (all_sections e) (short_not e.bytes.now e.names.now (file_is e).headers c.loop-i.i (in_headers e c.loop-i.i c.loop-i-test.true) r.0))
 
 pub loop-i-preserved : goal.loop-i-preserved
 unfolding header_sections
@@ -47,4 +46,4 @@ pub returns : goal.returns
 returns c =
     let e = c.args.a.now.file in
     let q = whole e c.loop-i.i c.loop-i-test.false in
-    ap pass (c.loop-i.invariant.sum ∙ ap room_sum q) ∙ room_good (all_sections e) (ap (all short_enough) (sym q) ∙ c.loop-i.invariant.short)
+    ap Ok (c.loop-i.invariant.sum ∙ ap room_sum q) ∙ room_good (all_sections e) (ap (all short_enough) (sym q) ∙ c.loop-i.invariant.short)

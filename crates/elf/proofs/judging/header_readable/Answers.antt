@@ -1,6 +1,5 @@
 -- `elf::judging::header_readable` meets its contract.
-use Rattle.std.proofs.Common.{◌≡◌, ◌∙◌, Bool, true, false, not, ◌&&◌, ◌/◌, ◌%◌, refl, sym, ap, eqb}
-use borrow.Author.Tests.{ne_eqb, eq-eqb}
+use Rattle.std.proofs.Common.{◌≡◌, ◌∙◌, Bool, true, false, not, ◌&&◌, ◌/◌, ◌%◌, refl, sym, ap, eqb, ne_eqb, eq-eqb}
 use Rattle.elf.specs.File.{is_wanted, unstored}
 use Rattle.elf.specs.Reader.{compressed}
 use Rattle.elf.specs.Held.{header_is, file_is, header_readable}

@@ -1,6 +1,5 @@
 -- `elf::judging::headers_good` meets its contract.
-use Rattle.std.proofs.Common.{◌∙◌, rules, refl, arith}
-use borrow.Author.Tests.{tests}
+use Rattle.std.proofs.Common.{◌∙◌, rules, refl, arith, tests}
 use Rattle.std.proofs.lemmas.Iterator.{YieldsList-from_range}
 use Rattle.std.proofs.lemmas.Iterator.Search.{all_from_yields_List}
 use Rattle.elf.specs.File.{wanted_of}

@@ -1,11 +1,5 @@
 -- `elf::naming::code_at` meets its contract.
-use mathlib.Core.List.{[]}
-use mathlib.Core.Path.{◌≡◌, ◌∙◌, refl, sym, ap}
-use Prim.Native.Nat.{ℕ}
-use native.Mathlib.Omega.{arith}
-use borrow.Author.Tests.{tests}
-use lib.ListN.{length, drop, length-drop}
-use Rattle.std.proofs.Common.{rules}
+use Rattle.std.proofs.Common.{rules, [], ◌≡◌, ◌∙◌, refl, sym, ap, ℕ, arith, tests, length, drop, length-drop}
 use Rattle.std.specs.Prelude.{Option, Some, None}
 use Rattle.std.specs.Option.{option_map}
 use Rattle.std.proofs.lemmas.Grind.{get_or_after_one}

@@ -4,7 +4,7 @@ use Rattle.std.proofs.lemmas.Result.{err_from_is_err_and}
 use Rattle.answers.specs.Answers.{answered, written_of, output_of}
 use Rattle.answers.proofs.Answering.{refused_written, refused_output}
 use Rattle.numbers.specs.Refusals.{unreadable_section}
-use Rattle.octets.specs.Checked.{Check}
+use Rattle.std.specs.Prelude.{Result}
 use Rattle.elf.specs.Reader.{bundle_from}
 use Rattle.elf.specs.Held.{file_is}
 use Rattle.elf.proofs.Refusals.{from_unreadable, from_unstated, from_word}
@@ -33,4 +33,4 @@ returns c =
     let e = a.a.now.file in
     let o = length a.out.now in
     let r = from_word e.bytes.now (file_is e) (sym c.all_readable.ensures ∙ c.if-not-all_readable.false) _ c.first_info-info.ensures c.in_ok-word.word c.in_ok-word.ensures in
-    record { answer = c.write_sections.ensures.answer ∙ ap (λ (z : Check (List ℕ)). written_of (answered z o)) r; output = c.write_sections.ensures.output ∙ ap (λ (z : Check (List ℕ)). output_of (answered z o) o) r }
+    record { answer = c.write_sections.ensures.answer ∙ ap (λ (z : Result (List ℕ) ℕ). written_of (answered z o)) r; output = c.write_sections.ensures.output ∙ ap (λ (z : Result (List ℕ) ℕ). output_of (answered z o) o) r }

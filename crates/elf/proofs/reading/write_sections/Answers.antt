@@ -2,7 +2,7 @@
 use Rattle.std.proofs.Common.{◌≡◌, ◌∙◌, ◌+◌, ◌≤◌, ◌<◌, length, ap, sym, arith}
 use Rattle.std.proofs.lemmas.Result.{err_from_is_err_and}
 use Rattle.answers.proofs.Answering.{refused_written, refused_output, short_written, short_output, made_written, made_output}
-use Rattle.octets.specs.Checked.{refuse}
+use Rattle.std.specs.Prelude.{Err}
 use Rattle.numbers.specs.Refusals.{section_too_long}
 use Rattle.elf.specs.Reader.{bundle_of_word}
 use Rattle.elf.specs.Held.{file_is, all_sections, one_object}
@@ -17,7 +17,7 @@ returns-in_err-room-clause-answer c =
     let e = c.args.a.now.file in
     let p = err_from_is_err_and c.from_residual.result c.from_residual.ensures.1 in
     let r = room_not (all_sections e) _ c.in_err-room.ensures in
-    rw (p.1, p.2) (refused_written (bundle_of_word e.bytes.now (file_is e) c.args.word) (length c.args.out.now) _ (word_long e.bytes.now (file_is e) c.args.word r.0 ∙ ap refuse (sym r.1)))
+    rw (p.1, p.2) (refused_written (bundle_of_word e.bytes.now (file_is e) c.args.word) (length c.args.out.now) _ (word_long e.bytes.now (file_is e) c.args.word r.0 ∙ ap Err (sym r.1)))
 
 pub returns-in_err-room-clause-output : goal.returns-in_err-room-clause-output
 unfolding all_sections

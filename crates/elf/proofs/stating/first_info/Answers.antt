@@ -1,6 +1,5 @@
 -- `elf::stating::first_info` meets its contract.
-use Rattle.std.proofs.Common.{◌∙◌, sym}
-use borrow.Author.Tests.{eq-eqb, eqb-true}
+use Rattle.std.proofs.Common.{◌∙◌, sym, eq-eqb, eqb-true}
 use Rattle.octets.proofs.Checks.{true_false}
 use Rattle.elf.specs.File.{wanted_of}
 use Rattle.elf.specs.Held.{file_is, header_sections}

@@ -1,9 +1,5 @@
 -- `elf_writer::sections::put_bodies` meets its contract.
-use mathlib.Core.Path.{ap, ◌∙◌}
-use mathlib.Core.List.{List}
-use Prim.Native.Nat.{ℕ, ◌+◌, ◌≤◌}
-use native.Mathlib.Omega.{arith}
-use lib.ListN.{length}
+use Rattle.std.proofs.Common.{ap, ◌∙◌, List, ℕ, ◌+◌, ◌≤◌, arith, length}
 use Rattle.octets.specs.Octets.{placed}
 use Rattle.elf_writer.specs.Held.{body_at}
 use Rattle.elf_writer.proofs.Loops.{putting_none, putting_room, putting_more, putting_end}

@@ -1,9 +1,5 @@
 -- `elf_writer::sections::put_name` meets its contract.
-use mathlib.Core.Bool.{true}
-use mathlib.Core.Path.{◌≡◌, sym, ap, ◌∙◌}
-use Prim.Native.Nat.{ℕ, ◌+◌, ◌≤◌}
-use native.Mathlib.Omega.{arith}
-use lib.ListN.{length}
+use Rattle.std.proofs.Common.{true, ◌≡◌, sym, ap, ◌∙◌, ℕ, ◌+◌, ◌≤◌, arith, length}
 use Rattle.octets.specs.Octets.{placed}
 use Rattle.octets.proofs.Placed.{placed_none, length_placed}
 use Rattle.elf_writer.specs.Held.{here, name_at}

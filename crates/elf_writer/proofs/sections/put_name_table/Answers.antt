@@ -1,9 +1,5 @@
 -- `elf_writer::sections::put_name_table` meets its contract.
-use mathlib.Core.Path.{◌≡◌, ap, ◌∙◌}
-use mathlib.Core.List.{[], ◌∷◌}
-use Prim.Native.Nat.{◌+◌}
-use native.Mathlib.Omega.{arith}
-use lib.ListN.{length}
+use Rattle.std.proofs.Common.{◌≡◌, ap, ◌∙◌, [], ◌∷◌, ◌+◌, arith, length}
 use Rattle.octets.proofs.Placed.{length_placed}
 use Rattle.elf_writer.specs.Held.{name_at, joined_from}
 use Rattle.elf_writer.proofs.Names.{length_table, table_put}

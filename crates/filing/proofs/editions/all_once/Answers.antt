@@ -6,4 +6,4 @@ use Rattle.filing.proofs.editions.all_once.Goals as goal
 
 pub returns : goal.returns
 unfolding only_once
-returns c = c.none_reaches.ensures ∙ none_listed _ _ _
+returns c = c.none_reaches.ensures ∙ none_listed c.args.count 2 only_once

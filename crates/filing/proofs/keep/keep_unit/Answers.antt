@@ -1,6 +1,5 @@
 -- `keep_unit` meets its contract.
-use mathlib.Core.Path.{subst}
-use lib.ListN.{length}
+use Rattle.std.proofs.Common.{subst, length}
 use Rattle.kept.specs.Columns.{columns_for, Marked}
 use Rattle.kept.specs.declared.Table.{Table}
 use Rattle.filing.proofs.Kept.{cells_room, keepable, unit_fits, few_units, unit_held, strings_kept, transient_kept}

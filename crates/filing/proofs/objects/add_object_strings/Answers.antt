@@ -1,7 +1,5 @@
 -- `add_object_strings` meets its contract.
-use mathlib.Core.Path.{refl}
-use native.Mathlib.Omega.{arith}
-use borrow.Author.Tests.{le-leb}
+use Rattle.std.proofs.Common.{refl, arith, le-leb}
 use Rattle.strings.proofs.Callers.{section_counted, section_ill}
 use Rattle.filing.proofs.Telling.{tells_exit}
 use Rattle.filing.proofs.Storing.{cut_of, cut_table, cut_back, cut_only}

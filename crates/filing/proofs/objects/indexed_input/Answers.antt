@@ -1,5 +1,5 @@
 -- `indexed_input` meets its contract.
-use mathlib.Core.Path.{refl}
+use Rattle.std.proofs.Common.{refl}
 use Rattle.filing.specs.Judged.{section_of}
 use Rattle.filing.specs.ByObject.{scanned, scanned_index}
 use Rattle.filing.proofs.Telling.{tells_exit, tells_first, tells_then, tells_pass}

@@ -1,5 +1,5 @@
 -- `open_tiled` meets its contract.
-use mathlib.Core.Path.{refl}
+use Rattle.std.proofs.Common.{refl}
 use Rattle.filing.proofs.Telling.{tells_exit}
 use Rattle.filing.proofs.InputLaws.{scan_within}
 use Rattle.filing.proofs.InputEnds.{opens_given}

@@ -1,6 +1,5 @@
 -- `open_whole` meets its contract.
-use mathlib.Core.Path.{sym, subst}
-use lib.ListN.{length}
+use Rattle.std.proofs.Common.{sym, subst, length}
 use Rattle.strings.specs.declared.table.StrOffsets.{StrOffsets}
 use Rattle.filing.specs.ByObject.{StringsRoom}
 use Rattle.filing.proofs.Telling.{tells_exit}

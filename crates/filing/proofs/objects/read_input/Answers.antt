@@ -1,5 +1,5 @@
 -- `read_input` meets its contract.
-use mathlib.Core.Path.{sym, ◌∙◌}
+use Rattle.std.proofs.Common.{sym, ◌∙◌}
 use Rattle.kept.proofs.RegionLending.{only_same}
 use Rattle.filing.proofs.Telling.{tells_exit}
 use Rattle.filing.proofs.Inputting.{packed_tiled, packed_whole}

@@ -1,5 +1,5 @@
 -- `add_parts` meets its contract.
-use mathlib.Core.Path.{refl}
+use Rattle.std.proofs.Common.{refl}
 use Rattle.filing.proofs.Telling.{tells_exit}
 use Rattle.filing.proofs.Storing.{cut_of, cut_table, cut_back, cut_only}
 use Rattle.filing.proofs.Tiling.{before_parts, good_headed, good_addable, parts_missing, parts_ill, parts_put}

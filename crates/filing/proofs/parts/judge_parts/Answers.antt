@@ -1,6 +1,5 @@
 -- `judge_parts` meets its contract.
-use mathlib.Core.Path.{refl}
-use native.Mathlib.Omega.{arith}
+use Rattle.std.proofs.Common.{refl, arith}
 use Rattle.kept.proofs.RegionStores.{codes_within}
 use Rattle.kept.proofs.RegionLending.{only_part}
 use Rattle.filing.proofs.parts.judge_parts.Goals as goal

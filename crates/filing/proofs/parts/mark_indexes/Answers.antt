@@ -1,5 +1,5 @@
 -- `mark_indexes` meets its contract.
-use mathlib.Core.Path.{◌∙◌}
+use Rattle.std.proofs.Common.{◌∙◌}
 use Rattle.index.specs.Tiles.{named}
 use Rattle.filing.proofs.Tiling.{both_first}
 use Rattle.filing.proofs.parts.mark_indexes.Goals as goal

@@ -1,8 +1,5 @@
 -- `tile_parts` meets its contract.
-use mathlib.Core.Path.{sym, ap, ◌∙◌}
-use mathlib.Core.List.{List}
-use Prim.Native.Nat.{ℕ}
-use lib.ListN.{length}
+use Rattle.std.proofs.Common.{sym, ap, ◌∙◌, List, ℕ, length}
 use Rattle.octets.specs.Octets.{zeros}
 use Rattle.bundle.specs.Encoded.{encoding_is}
 use Rattle.places.specs.Marks.{good_end}

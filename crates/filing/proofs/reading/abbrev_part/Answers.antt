@@ -1,6 +1,5 @@
 -- `abbrev_part` meets its contract.
-use mathlib.Core.Path.{sym, ◌∙◌}
-use native.Mathlib.Omega.{arith}
+use Rattle.std.proofs.Common.{sym, ◌∙◌, arith}
 use Rattle.filing.proofs.Abbreviated.{abbrev_outside}
 use Rattle.filing.proofs.reading.abbrev_part.Goals as goal
 use Rattle.filing.proofs.reading.abbrev_part.Goals.{then-cell-size-via-then-cell-size, then-cell-size-via-else-cell-size+then-cell-size-2}

@@ -1,6 +1,5 @@
 -- `add_sections` meets its contract. What the loop keeps is `Sectioned`, and the tables that were judged.
-use mathlib.Core.Path.{refl, sym, ◌∙◌}
-use native.Mathlib.Omega.{arith}
+use Rattle.std.proofs.Common.{refl, sym, ◌∙◌, arith}
 use Rattle.bundle.proofs.Units.{found_some, found_none}
 use Rattle.filing.proofs.Telling.{tells_exit}
 use Rattle.filing.proofs.OverSections.{sections_reach, section_lies, at_later, sectioned_more, sectioned_refused, sectioned_end}

@@ -1,6 +1,5 @@
 -- `add_sections` meets its contract. What the loop keeps is `Sectioned`, and the tables that were judged.
-use Prim.Native.Nat.{◌-◌}
-use lib.ListN.{length}
+use Rattle.std.proofs.Common.{◌-◌, length}
 use Rattle.filing.specs.State.{Remembered}
 use Rattle.filing.proofs.OverSections.{Sectioned}
 use Rattle.filing.proofs.walks.add_sections.Given as goal

@@ -1,8 +1,5 @@
 -- The loop keeps that what is counted and what is left make the length.
-use mathlib.Core.Path.{refl}
-use Prim.Native.Nat.{◌≤◌}
-use native.Mathlib.Omega.{arith}
-use lib.ListN.{get_or}
+use Rattle.std.proofs.Common.{refl, ◌≤◌, arith, get_or}
 use Rattle.finish.specs.Sections.{length_of}
 use Rattle.finish.proofs.SectionSizes.{framed_turn, framed_end, framed_most, size_good}
 use Rattle.finish.proofs.sections.package_length.Goals as goal

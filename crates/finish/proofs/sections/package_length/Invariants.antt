@@ -1,6 +1,5 @@
 -- The loop keeps that what is counted and what is left make the length.
-use mathlib.Core.Path.{◌≡◌}
-use Prim.Native.Nat.{◌+◌, ◌*◌, ◌-◌, ◌≤◌}
+use Rattle.std.proofs.Common.{◌≡◌, ◌+◌, ◌*◌, ◌-◌, ◌≤◌}
 use Rattle.finish.specs.Sections.{framed_from, length_of}
 use Rattle.finish.proofs.sections.package_length.Given as goal
 

@@ -1,6 +1,5 @@
 -- Each size is within the limit.
-use Rattle.std.proofs.Common.{◌≡◌, ◌∙◌, ℕ, leb, rules}
-use borrow.Author.Tests.{tests}
+use Rattle.std.proofs.Common.{◌≡◌, ◌∙◌, ℕ, leb, rules, tests}
 use Rattle.std.specs.List.{list_all}
 use Rattle.std.proofs.lemmas.Iterator.{YieldsList-from_slice}
 use Rattle.std.proofs.lemmas.Iterator.Search.{all_from_yields_List}

@@ -1,10 +1,6 @@
 -- Each way out is the definition's answer; 4 can't occur here.
-use mathlib.Core.Path.{◌≡◌, sym, ap, ◌∙◌}
-use mathlib.Core.List.{List, []}
-use Prim.Native.Nat.{ℕ}
-use native.Mathlib.Omega.{arith}
-use lib.ListN.{length}
-use Rattle.octets.specs.Checked.{Check, pass}
+use Rattle.std.proofs.Common.{◌≡◌, sym, ap, ◌∙◌, List, [], ℕ, arith, length}
+use Rattle.std.specs.Prelude.{Result, Ok}
 use Rattle.bundle.proofs.Objects.{objects_none, objects_other, objects_refused}
 use Rattle.answers.specs.Answers.{answered, output_of}
 use Rattle.answers.specs.Outcome.{outcome_of}
@@ -21,7 +17,7 @@ use Rattle.finish.proofs.whole.finish.Goals.{After-section_sizes, In_ok-encoding
 end_of : (c : In_ok-encoding)
     → (Ending c.args.big c.args.b.now c.args.st c.args.work.now c.in_ok-encoding.encoding c.in-Ok-Object.word)
 end_of c =
-    ending _ _ _ _ c.requires.0 (λ i. (c.type_inv.b i).fits) _ _ (sym (ap pass c.in-Ok-Object.field-0-is) ∙ c.in-Ok-Object.ensures) _ c.in_ok-encoding.ensures
+    ending _ _ _ _ c.requires.0 (λ i. (c.type_inv.b i).fits) _ _ (sym (ap Ok c.in-Ok-Object.field-0-is) ∙ c.in-Ok-Object.ensures) _ c.in_ok-encoding.ensures
 
 pub returns-in_default : goal.returns-in_default
 returns-in_default c =
@@ -33,12 +29,12 @@ returns-in_default c =
     ] in
     let p = sym (empty_package _ _ _ _ a (sym over)) in
     record {
-      answer = c.finish_empty.ensures.answer ∙ ap (λ (k : Check (List ℕ)). outcome_of (answered k (length c.args.out.now))) p;
-      output = c.finish_empty.ensures.output ∙ ap (λ (k : Check (List ℕ)). output_of (answered k (length c.args.out.now)) (length c.args.out.now)) p;
+      answer = c.finish_empty.ensures.answer ∙ ap (λ (k : Result (List ℕ) ℕ). outcome_of (answered k (length c.args.out.now))) p;
+      output = c.finish_empty.ensures.output ∙ ap (λ (k : Result (List ℕ) ℕ). output_of (answered k (length c.args.out.now)) (length c.args.out.now)) p;
     }
 
 pub returns-in_err-encoding : goal.returns-in_err-encoding
-returns-in_err-encoding c = absurd (word_good _ _ _ _ c.requires.0 (λ i. (c.type_inv.b i).fits) _ _ (sym (ap pass c.in-Ok-Object.field-0-is) ∙ c.in-Ok-Object.ensures) _ c.in_err-encoding.ensures)
+returns-in_err-encoding c = absurd (word_good _ _ _ _ c.requires.0 (λ i. (c.type_inv.b i).fits) _ _ (sym (ap Ok c.in-Ok-Object.field-0-is) ∙ c.in-Ok-Object.ensures) _ c.in_err-encoding.ensures)
 
 pub place_tables-requires : goal.place_tables-requires
 place_tables-requires c = (end_of (goal.at.place_tables-requires c).In_ok-encoding).asks
@@ -73,6 +69,6 @@ returns c =
     let r = g.ready _ (g.told _ c.place_tables.ensures) c.if-st.false in
     let z = sized (goal.at.returns c).After-section_sizes g.s r in
     let o = length c.args.out.now in record {
-      answer = c.finish_sections.ensures.answer g.s r z ∙ ap (λ (k : Check (List ℕ)). outcome_of (answered k o)) (sym g.whole);
-      output = c.finish_sections.ensures.output g.s r z ∙ ap (λ (k : Check (List ℕ)). output_of (answered k o) o) (sym g.whole);
+      answer = c.finish_sections.ensures.answer g.s r z ∙ ap (λ (k : Result (List ℕ) ℕ). outcome_of (answered k o)) (sym g.whole);
+      output = c.finish_sections.ensures.output g.s r z ∙ ap (λ (k : Result (List ℕ) ℕ). output_of (answered k o) o) (sym g.whole);
     }

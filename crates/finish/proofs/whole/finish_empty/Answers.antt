@@ -1,5 +1,5 @@
 -- Head and end, or that they don't fit.
-use mathlib.Core.Path.{refl, sym}
+use Rattle.std.proofs.Common.{refl, sym}
 use Rattle.finish.proofs.Answers.{short_answer, short_output, made_answer, made_output}
 use Rattle.finish.proofs.Steps.{empty_length, empty_made}
 use Rattle.finish.proofs.whole.finish_empty.Goals as goal

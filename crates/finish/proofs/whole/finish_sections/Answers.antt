@@ -1,5 +1,5 @@
 -- The sizes say which answer it is, for any sections that are ready.
-use mathlib.Core.Path.{sym, ◌∙◌}
+use Rattle.std.proofs.Common.{sym, ◌∙◌}
 use Rattle.finish.proofs.Answers.{refused_answer, refused_output, short_answer, short_output, made_answer, made_output, sized_bad, sized_good, sized_length}
 use Rattle.finish.proofs.whole.finish_sections.Goals as goal
 

@@ -1,9 +1,6 @@
 -- `join::files::put_as_it_is` meets its contract.
-use mathlib.Core.Path.{ap, ◌∙◌}
-use mathlib.Core.List.{List}
-use Prim.Native.Nat.{ℕ}
-use lib.ListN.{length}
-use Rattle.octets.specs.Checked.{Check}
+use Rattle.std.proofs.Common.{ap, ◌∙◌, List, ℕ, length}
+use Rattle.std.specs.Prelude.{Result}
 use Rattle.answers.specs.Answers.{answered, written_of, output_of}
 use Rattle.answers.proofs.Answering.{refused_written, refused_output}
 use Rattle.join.specs.Join.{as_it_is}
@@ -22,4 +19,4 @@ returns-else-file-gt-PACKAGE_LIMIT c =
     let f = c.args.file.now in
     let o = length c.args.output.now in
     let r = short_enough f c.if-file-gt-PACKAGE_LIMIT.false in
-    record { answer = c.put_words.ensures.answer ∙ ap (λ (z : Check (List ℕ)). written_of (answered z o)) r; output = c.put_words.ensures.output ∙ ap (λ (z : Check (List ℕ)). output_of (answered z o) o) r }
+    record { answer = c.put_words.ensures.answer ∙ ap (λ (z : Result (List ℕ) ℕ). written_of (answered z o)) r; output = c.put_words.ensures.output ∙ ap (λ (z : Result (List ℕ) ℕ). output_of (answered z o) o) r }

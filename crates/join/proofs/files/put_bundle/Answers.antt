@@ -1,9 +1,6 @@
 -- `join::files::put_bundle` meets its contract.
-use mathlib.Core.Path.{ap, ◌∙◌}
-use mathlib.Core.List.{List}
-use Prim.Native.Nat.{ℕ}
-use lib.ListN.{length}
-use Rattle.octets.specs.Checked.{Check}
+use Rattle.std.proofs.Common.{ap, ◌∙◌, List, ℕ, length}
+use Rattle.std.specs.Prelude.{Result}
 use Rattle.answers.specs.Answers.{answered, written_of, output_of}
 use Rattle.answers.proofs.Answering.{refused_written, refused_output}
 use Rattle.join.specs.Join.{as_bundle}
@@ -15,7 +12,7 @@ returns-in-Ok c =
     let f = c.args.file.now in
     let o = length c.args.output.now in
     let r = formed f _ c.in-Ok.ensures in
-    record { answer = c.put_as_it_is.ensures.answer ∙ ap (λ (z : Check (List ℕ)). written_of (answered z o)) r; output = c.put_as_it_is.ensures.output ∙ ap (λ (z : Check (List ℕ)). output_of (answered z o) o) r }
+    record { answer = c.put_as_it_is.ensures.answer ∙ ap (λ (z : Result (List ℕ) ℕ). written_of (answered z o)) r; output = c.put_as_it_is.ensures.output ∙ ap (λ (z : Result (List ℕ) ℕ). output_of (answered z o) o) r }
 
 pub returns-in-Err : goal.returns-in-Err
 returns-in-Err c =

@@ -1,9 +1,6 @@
 -- `join::files::put_file` meets its contract.
-use mathlib.Core.Path.{sym, ap, ◌∙◌}
-use mathlib.Core.List.{List}
-use Prim.Native.Nat.{ℕ}
-use lib.ListN.{length}
-use Rattle.octets.specs.Checked.{Check}
+use Rattle.std.proofs.Common.{sym, ap, ◌∙◌, List, ℕ, length}
+use Rattle.std.specs.Prelude.{Result}
 use Rattle.answers.specs.Answers.{answered, written_of, output_of}
 use Rattle.join.proofs.Answers.{file_elf, file_other}
 use Rattle.join.proofs.files.put_file.Goals as goal
@@ -12,10 +9,10 @@ pub returns-then-is_elf : goal.returns-then-is_elf
 returns-then-is_elf c =
     let o = length c.args.output.now in
     let r = file_elf c.args.file.now (sym c.is_elf.ensures ∙ c.if-is_elf.true) in
-    record { answer = c.read_elf.ensures.answer ∙ ap (λ (z : Check (List ℕ)). written_of (answered z o)) r; output = c.read_elf.ensures.output ∙ ap (λ (z : Check (List ℕ)). output_of (answered z o) o) r }
+    record { answer = c.read_elf.ensures.answer ∙ ap (λ (z : Result (List ℕ) ℕ). written_of (answered z o)) r; output = c.read_elf.ensures.output ∙ ap (λ (z : Result (List ℕ) ℕ). output_of (answered z o) o) r }
 
 pub returns-else-is_elf : goal.returns-else-is_elf
 returns-else-is_elf c =
     let o = length c.args.output.now in
     let r = file_other c.args.file.now (sym c.is_elf.ensures ∙ c.if-is_elf.false) in
-    record { answer = c.put_bundle.ensures.answer ∙ ap (λ (z : Check (List ℕ)). written_of (answered z o)) r; output = c.put_bundle.ensures.output ∙ ap (λ (z : Check (List ℕ)). output_of (answered z o) o) r }
+    record { answer = c.put_bundle.ensures.answer ∙ ap (λ (z : Result (List ℕ) ℕ). written_of (answered z o)) r; output = c.put_bundle.ensures.output ∙ ap (λ (z : Result (List ℕ) ℕ). output_of (answered z o) o) r }

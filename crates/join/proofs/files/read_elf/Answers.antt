@@ -1,9 +1,6 @@
 -- `join::files::read_elf` meets its contract.
-use mathlib.Core.Path.{sym, ap, ◌∙◌}
-use mathlib.Core.List.{List}
-use Prim.Native.Nat.{ℕ}
-use lib.ListN.{length}
-use Rattle.octets.specs.Checked.{Check}
+use Rattle.std.proofs.Common.{sym, ap, ◌∙◌, List, ℕ, length}
+use Rattle.std.specs.Prelude.{Result}
 use Rattle.answers.specs.Answers.{answered, written_of, output_of}
 use Rattle.elf.specs.Reader.{elf_read}
 use Rattle.elf.specs.Elf32.{elf32_read}
@@ -15,11 +12,11 @@ unfolding elf32_read
 returns-then-is_elf32 c =
     let o = length c.args.output.now in
     let r = class_32 c.args.file.now (sym c.is_elf32.ensures ∙ c.if-is_elf32.true) in
-    record { answer = c.read_elf32.ensures.answer ∙ ap (λ (z : Check (List ℕ)). written_of (answered z o)) r; output = c.read_elf32.ensures.output ∙ ap (λ (z : Check (List ℕ)). output_of (answered z o) o) r }
+    record { answer = c.read_elf32.ensures.answer ∙ ap (λ (z : Result (List ℕ) ℕ). written_of (answered z o)) r; output = c.read_elf32.ensures.output ∙ ap (λ (z : Result (List ℕ) ℕ). output_of (answered z o) o) r }
 
 pub returns-else-is_elf32 : goal.returns-else-is_elf32
 unfolding elf_read
 returns-else-is_elf32 c =
     let o = length c.args.output.now in
     let r = class_64 c.args.file.now (sym c.is_elf32.ensures ∙ c.if-is_elf32.false) in
-    record { answer = c.read_elf.ensures.answer ∙ ap (λ (z : Check (List ℕ)). written_of (answered z o)) r; output = c.read_elf.ensures.output ∙ ap (λ (z : Check (List ℕ)). output_of (answered z o) o) r }
+    record { answer = c.read_elf.ensures.answer ∙ ap (λ (z : Result (List ℕ) ℕ). written_of (answered z o)) r; output = c.read_elf.ensures.output ∙ ap (λ (z : Result (List ℕ) ℕ). output_of (answered z o) o) r }

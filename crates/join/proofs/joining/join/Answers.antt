@@ -1,6 +1,5 @@
 -- `join::joining::join` meets its contract.
-use mathlib.Core.Path.{refl, sym, ap, ◌∙◌}
-use lib.ListN.{length}
+use Rattle.std.proofs.Common.{refl, sym, ap, ◌∙◌, length}
 use Rattle.answers.specs.Answers.{Answer, written_of, output_of}
 use Rattle.join.specs.Join.{memory_after}
 use Rattle.join.proofs.Memory.{unframed_kept}

@@ -1,5 +1,5 @@
 -- `join::joining::last_words` meets its contract.
-use mathlib.Core.Path.{◌∙◌}
+use Rattle.std.proofs.Common.{◌∙◌}
 use Rattle.octets.proofs.Parts.{part_cut}
 use Rattle.join.proofs.joining.last_words.Goals as goal
 

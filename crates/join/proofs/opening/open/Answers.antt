@@ -1,7 +1,5 @@
 -- `join::opening::open` meets its contract.
-use mathlib.Core.Path.{sym, ap, ◌∙◌}
-use lib.ListN.{length}
-use lib.Seq.{length-take-le}
+use Rattle.std.proofs.Common.{sym, ap, ◌∙◌, length, length-take-le}
 use Rattle.octets.specs.Octets.{zeros}
 use Rattle.answers.specs.Answers.{Answer, written_of, output_of}
 use Rattle.join.proofs.Opened.{unread, within, packaged, unpackaged}

@@ -1,7 +1,5 @@
 -- `moved` meets its contract.
-use mathlib.Core.Path.{◌≡◌}
-use Prim.Native.Nat.{ℕ, ◌<◌, ◌≤◌}
-use lib.ListN.{length, get_or}
+use Rattle.std.proofs.Common.{◌≡◌, ℕ, ◌<◌, ◌≤◌, length, get_or}
 use Rattle.std.specs.Prelude.{None}
 use Rattle.kept.specs.Cells.{moved_by}
 use Rattle.kept.proofs.cells.moved.Given as goal

@@ -1,7 +1,6 @@
 -- `kept::records::store_cells` meets its contract: what is left is still to be stored.
-use mathlib.Core.Path.{refl, ap, ◌∙◌}
+use Rattle.std.proofs.Common.{refl, ap, ◌∙◌, arith}
 use Rattle.index.specs.Contributed.{stated}
-use native.Mathlib.Omega.{arith}
 use Rattle.index.specs.declared.cells.Contribution.{Contribution}
 use Rattle.kept.specs.Records.{cells_of}
 use Rattle.kept.proofs.Recording.{cells_room}

@@ -1,5 +1,5 @@
 -- `kept::records::store_cells` meets its contract: what is left is still to be stored.
-use Prim.Native.Nat.{◌+◌, ◌*◌, ◌-◌}
+use Rattle.std.proofs.Common.{◌+◌, ◌*◌, ◌-◌}
 use Rattle.kept.specs.Records.{cells_left, cells_of}
 use Rattle.kept.proofs.Copying.{Copying}
 use Rattle.kept.proofs.records.store_cells.Given as goal

@@ -1,9 +1,5 @@
 -- `kept::records::store_unit` meets its contract: the head, and behind it the cells.
-use mathlib.Core.Path.{ap, ◌∙◌}
-use mathlib.Core.List.{List}
-use Prim.Native.Nat.{ℕ, ◌+◌, ◌-◌}
-use lib.ListN.{get_or}
-use native.Mathlib.Omega.{arith}
+use Rattle.std.proofs.Common.{ap, ◌∙◌, List, ℕ, ◌+◌, ◌-◌, get_or, arith}
 use borrow.Rule.Slice.PartMut.{put_mid}
 use Rattle.octets.proofs.Regions.{placed_whole}
 use Rattle.kept.proofs.Copying.{unit_stored}

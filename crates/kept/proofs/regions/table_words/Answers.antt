@@ -1,6 +1,5 @@
 -- `table_words` meets its contract.
-use mathlib.Core.Path.{sym}
-use lib.Seq.{length-take-le}
+use Rattle.std.proofs.Common.{sym, length-take-le}
 use Rattle.kept.proofs.RegionStores.{table_inside}
 use Rattle.kept.proofs.regions.table_words.Goals as goal
 

@@ -1,5 +1,5 @@
 -- `kept::slots::keep` meets its contract.
-use native.Mathlib.Omega.{arith}
+use Rattle.std.proofs.Common.{arith}
 use Rattle.kept.proofs.Placing.{slots_start, slot_fits}
 use Rattle.kept.proofs.slots.keep.Goals as goal
 

@@ -1,8 +1,5 @@
 -- `kept::slots::place_unit` meets its contract.
-use mathlib.Core.Path.{◌≡◌, sym, ap, ◌∙◌}
-use mathlib.Core.List.{List, [], ◌∷◌}
-use Prim.Native.Nat.{ℕ, ◌+◌, ◌<◌}
-use native.Mathlib.Omega.{arith}
+use Rattle.std.proofs.Common.{◌≡◌, sym, ap, ◌∙◌, List, [], ◌∷◌, ℕ, ◌+◌, ◌<◌, arith}
 use Rattle.std.specs.Prelude.{Err}
 use Rattle.octets.specs.Octets.{placed}
 use Rattle.kept.specs.Regions.{records_region, region}

@@ -1,5 +1,5 @@
 -- `kept::slots::place_units` meets its contract.
-use mathlib.Core.Path.{refl}
+use Rattle.std.proofs.Common.{refl}
 use Rattle.octets.specs.Octets.{zeros}
 use Rattle.kept.proofs.Placing.{slots_start, slots_end, cleared_slots, placed_over}
 use Rattle.kept.proofs.slots.place_units.Goals as goal

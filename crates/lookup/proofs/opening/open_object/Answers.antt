@@ -1,6 +1,6 @@
 -- `lookup::opening::open_object` meets its contract.
 use Rattle.lookup.proofs.Entering.{entering_reaches, entering_alone, entering_other, entering_refused}
-use native.Mathlib.Omega.{arith}
+use Rattle.std.proofs.Common.{arith}
 use Rattle.lookup.proofs.opening.open_object.Goals as goal
 
 pub scan_object-sections-requires : goal.scan_object-sections-requires

@@ -1,11 +1,7 @@
 -- `lookup::opening::open_sections` meets its contract.
 use Rattle.lookup.proofs.Opened.{alone_within, alone_word, alone_repeated, alone_cu, alone_tu, alone_good}
-use mathlib.Core.Bool.{true}
-use lib.ListN.{length, take, drop}
-use Prim.Native.Nat.{◌-◌}
+use Rattle.std.proofs.Common.{true, length, take, drop, ◌-◌, arith, ◌≡◌, sym, ◌∙◌}
 use Rattle.lookup.specs.Answers.{single}
-use native.Mathlib.Omega.{arith}
-use mathlib.Core.Path.{◌≡◌, sym, ◌∙◌}
 use Rattle.std.proofs.lemmas.Result.{err_from_is_err_and}
 use Rattle.lookup.proofs.opening.open_sections.Goals as goal
 use Rattle.lookup.proofs.opening.open_sections.Goals.{Else-not-are_single}

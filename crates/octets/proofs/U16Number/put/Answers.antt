@@ -1,5 +1,5 @@
 -- `put` of a `u16` meets the contract of `octets::Number`.
-use mathlib.Core.Path.{◌∙◌}
+use Rattle.std.proofs.Common.{◌∙◌}
 use Rattle.octets.proofs.Fixed.{low_bytes, high_bytes, put_is}
 use Rattle.octets.proofs.U16Number.put.Goals as goal
 

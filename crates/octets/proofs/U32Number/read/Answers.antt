@@ -1,5 +1,5 @@
 -- `read` of a `u32` meets the contract of `octets::Number`.
-use mathlib.Core.Path.{sym, ◌∙◌}
+use Rattle.std.proofs.Common.{sym, ◌∙◌}
 use Rattle.std.proofs.lemmas.Nat.{be_bytes_4, le_bytes_4}
 use Rattle.octets.proofs.Fixed.{low_bytes, high_bytes, read_is}
 use Rattle.octets.proofs.U32Number.read.Goals as goal

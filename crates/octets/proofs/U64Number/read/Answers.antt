@@ -1,5 +1,5 @@
 -- `read` of a `u64` meets the contract of `octets::Number`.
-use mathlib.Core.Path.{sym, ◌∙◌}
+use Rattle.std.proofs.Common.{sym, ◌∙◌}
 use Rattle.std.proofs.lemmas.Nat.{be_bytes_8, le_bytes_8}
 use Rattle.octets.proofs.Fixed.{low_bytes, high_bytes, read_is}
 use Rattle.octets.proofs.U64Number.read.Goals as goal

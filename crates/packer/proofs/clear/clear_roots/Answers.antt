@@ -1,6 +1,5 @@
 -- The part that is cleared has the roots.
-use mathlib.Core.Path.{refl}
-use native.Mathlib.Omega.{arith}
+use Rattle.std.proofs.Common.{refl, arith}
 use Rattle.packer.proofs.Slots.{roots_cleared}
 use Rattle.packer.proofs.clear.clear_roots.Goals as goal
 

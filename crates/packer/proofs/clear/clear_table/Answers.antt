@@ -1,6 +1,5 @@
 -- The part that is cleared lies in work, and holds the slots.
-use mathlib.Core.Path.{refl}
-use native.Mathlib.Omega.{arith}
+use Rattle.std.proofs.Common.{refl, arith}
 use Rattle.kept.proofs.Placing.{slots_start, slots_end}
 use Rattle.packer.proofs.Slots.{clearing, table_cleared}
 use Rattle.packer.proofs.clear.clear_table.Goals as goal

@@ -1,6 +1,5 @@
 -- `add_input_objects` meets its contract. What the loop keeps is `SoFar`.
-use Prim.Native.Nat.{◌-◌}
-use lib.ListN.{length}
+use Rattle.std.proofs.Common.{◌-◌, length}
 use Rattle.packer.proofs.OverObjects.{SoFar}
 use Rattle.packer.proofs.objects.add_input_objects.Given as goal
 

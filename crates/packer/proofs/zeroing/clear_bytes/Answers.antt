@@ -1,8 +1,5 @@
 -- `clear_bytes` meets its contract.
-use mathlib.Core.Path.{refl, ap, ◌∙◌}
-use Prim.Native.Nat.{◌*◌, ◌≤◌}
-use native.Mathlib.Omega.{arith}
-use lib.ListN.{length}
+use Rattle.std.proofs.Common.{refl, ap, ◌∙◌, ◌*◌, ◌≤◌, arith, length}
 use Rattle.octets.specs.Octets.{zeros}
 use Rattle.packer.proofs.Zeros.{zero_none, zero_up_to, zero_all, zero_same, zero_more}
 use Rattle.packer.proofs.zeroing.clear_bytes.Goals as goal

@@ -1,5 +1,5 @@
 -- `clear_bytes` meets its contract. Invariant: the pages that were passed are zero.
-use Prim.Native.Nat.{◌*◌}
+use Rattle.std.proofs.Common.{◌*◌}
 use Rattle.packer.specs.Zeros.{ZeroUpTo}
 use Rattle.packer.proofs.zeroing.clear_bytes.Given as goal
 

@@ -1,5 +1,5 @@
 -- `joined` meets its contract. Invariant: where all is zero, so are the words that were passed.
-use mathlib.Core.Path.{◌≡◌}
+use Rattle.std.proofs.Common.{◌≡◌}
 use Rattle.packer.specs.Zeros.{ZeroUpTo}
 use Rattle.packer.proofs.zeroing.joined.Given as goal
 

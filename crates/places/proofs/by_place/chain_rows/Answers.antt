@@ -1,6 +1,5 @@
 -- `places::by_place::chain_rows` meets its contract: the rows so far are in their chains.
-use mathlib.Core.Path.{ap}
-use native.Mathlib.Omega.{arith}
+use Rattle.std.proofs.Common.{ap, arith}
 use Rattle.index.specs.declared.reading.IndexHead.{IndexHead}
 use Rattle.octets.specs.Octets.{zeros}
 use Rattle.places.proofs.Chaining.{rows_start, rows_on}

@@ -1,5 +1,5 @@
 -- `places::by_place::chain_rows` meets its contract: the rows so far are in their chains.
-use Prim.Native.Nat.{◌-◌}
+use Rattle.std.proofs.Common.{◌-◌}
 use Rattle.places.specs.Chains.{ChainedTo}
 use Rattle.places.proofs.by_place.chain_rows.Given as goal
 

@@ -1,6 +1,5 @@
 -- `places::by_place::row_at` meets its contract: what was found so far, and the rows of the chain that are left.
-use mathlib.Core.Path.{refl, ap, ◌∙◌}
-use native.Mathlib.Omega.{arith}
+use Rattle.std.proofs.Common.{refl, ap, ◌∙◌, arith}
 use Rattle.numbers.specs.Refused.{told}
 use Rattle.index.specs.declared.reading.IndexHead.{IndexHead}
 use Rattle.places.proofs.Chaining.{walk_starts, walk_ended, walk_over, walk_step, walk_second, walk_first, walk_on, is_none, is_there}

@@ -1,9 +1,5 @@
 -- `places::tiles::good_parts` meets its contract: the parts ahead, of which the same comes out.
-use mathlib.Core.Path.{refl, sym, ap, ◌∙◌}
-use mathlib.Core.List.{List}
-use Prim.Native.Nat.{◌+◌, ◌≤◌}
-use native.Mathlib.Omega.{arith}
-use lib.ListN.{length, get_or}
+use Rattle.std.proofs.Common.{refl, sym, ap, ◌∙◌, List, ◌+◌, ◌≤◌, arith, length, get_or}
 use Rattle.bundle.specs.Encoded.{encoding_is}
 use Rattle.strings.specs.Strings.{entries_of}
 use Rattle.index.specs.Index.{Contribution}

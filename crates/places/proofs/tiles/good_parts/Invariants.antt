@@ -1,7 +1,5 @@
 -- `places::tiles::good_parts` meets its contract: the parts ahead, of which the same comes out.
-use mathlib.Core.List.{List}
-use Prim.Native.Nat.{◌-◌, ◌≤◌}
-use lib.ListN.{length}
+use Rattle.std.proofs.Common.{List, ◌-◌, ◌≤◌, length}
 use Rattle.bundle.specs.Encoded.{encoding_is}
 use Rattle.index.specs.Index.{Contribution}
 use Rattle.places.specs.Marks.{TiledBy}

@@ -1,6 +1,5 @@
 -- `places::tiles::mark_part` meets its contract: by the cell and what is marked at its place.
-use mathlib.Core.Path.{refl}
-use native.Mathlib.Omega.{arith}
+use Rattle.std.proofs.Common.{refl, arith}
 use Rattle.octets.proofs.Placed.{placed_byte}
 use Rattle.places.proofs.Marking.{none_marked, empty_marked, outside_marked, new_marked, old_marked}
 use Rattle.places.proofs.tiles.mark_part.Goals as goal

@@ -1,7 +1,5 @@
 -- `places::tiles::mark_rows` meets its contract: the rows so far are marked.
-use mathlib.Core.Path.{refl, ap}
-use Prim.Native.Nat.{◌+◌, ◌-◌}
-use native.Mathlib.Omega.{arith}
+use Rattle.std.proofs.Common.{refl, ap, ◌+◌, ◌-◌, arith}
 use Rattle.index.specs.declared.reading.IndexHead.{IndexHead}
 use Rattle.places.proofs.Marking.{rows_none, row_marked, row_clashes, rows_all}
 use Rattle.places.proofs.tiles.mark_rows.Goals as goal

@@ -1,6 +1,5 @@
 -- `places::tiles::mark_rows` meets its contract: the rows so far are marked.
-use mathlib.Core.List.{List, ◌++◌}
-use Prim.Native.Nat.{◌+◌, ◌-◌, ◌≤◌}
+use Rattle.std.proofs.Common.{List, ◌++◌, ◌+◌, ◌-◌, ◌≤◌}
 use Rattle.index.specs.Index.{Contribution}
 use Rattle.places.specs.Marks.{Marks}
 use Rattle.places.proofs.Marking.{rows_named}

@@ -1,6 +1,5 @@
 -- `places::tiles::tiled` meets its contract: from here on the same comes out.
-use mathlib.Core.Path.{◌≡◌}
-use lib.ListN.{drop}
+use Rattle.std.proofs.Common.{◌≡◌, drop}
 use Rattle.places.specs.Marks.{marks_good}
 use Rattle.places.proofs.tiles.tiled.Given as goal
 

@@ -1,7 +1,5 @@
 -- `sheet::lines::put_hex` meets its contract.
-use mathlib.Core.Path.{◌≡◌, sym, ◌∙◌}
-use native.Mathlib.Omega.{arith}
-use lib.ListN.{length-set}
+use Rattle.std.proofs.Common.{◌≡◌, sym, ◌∙◌, arith, length-set}
 use Rattle.octets.proofs.Placed.{placed_none}
 use Rattle.sheet.specs.Sheet.{hex}
 use Rattle.sheet.proofs.LawLines.{hex_store}

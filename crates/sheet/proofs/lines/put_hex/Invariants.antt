@@ -1,7 +1,5 @@
 -- `sheet::lines::put_hex` meets its contract.
-use mathlib.Core.Path.{◌≡◌}
-use Prim.Native.Nat.{◌+◌, ◌≤◌}
-use lib.ListN.{length}
+use Rattle.std.proofs.Common.{◌≡◌, ◌+◌, ◌≤◌, length}
 use Rattle.octets.specs.Octets.{placed}
 use Rattle.sheet.specs.Sheet.{hex}
 use Rattle.sheet.proofs.lines.put_hex.Given as goal

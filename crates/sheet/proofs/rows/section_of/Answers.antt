@@ -1,9 +1,5 @@
 -- `sheet::rows::section_of` meets its contract.
-use mathlib.Core.Path.{◌≡◌, refl, ◌∙◌, ap}
-use mathlib.Core.List.{map}
-use borrow.Author.Tests.{tests}
-use lib.Dec.{eqb}
-use Rattle.std.proofs.Common.{rules}
+use Rattle.std.proofs.Common.{rules, ◌≡◌, refl, ◌∙◌, ap, map, tests, eqb}
 use Rattle.std.specs.Prelude.{Option, Some, None, unwrap_or}
 use Rattle.std.specs.Borrow.{Bor}
 use Rattle.std.specs.Option.{option_map, option_map_or}

@@ -1,6 +1,5 @@
 -- `sheet::rows::sections_of` meets its contract.
-use mathlib.Core.Path.{◌≡◌}
-use lib.ListN.{length}
+use Rattle.std.proofs.Common.{◌≡◌, length}
 use Rattle.sheet.specs.Held.{Sections}
 use Rattle.sheet.proofs.rows.sections_of.Given as goal
 

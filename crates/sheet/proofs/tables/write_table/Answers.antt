@@ -1,5 +1,5 @@
 -- `sheet::tables::write_table` meets its contract.
-use mathlib.Core.Path.{◌∙◌}
+use Rattle.std.proofs.Common.{◌∙◌}
 use Rattle.sheet.proofs.LawTables.{table_laid}
 use Rattle.sheet.proofs.tables.write_table.Goals as goal
 

@@ -1,8 +1,5 @@
 -- `write_strings` meets its contract. The loop: the strings of the rows passed are written.
-use mathlib.Core.Path.{ap, ◌∙◌}
-use Prim.Native.Nat.{◌+◌, ◌*◌}
-use native.Mathlib.Omega.{arith}
-use lib.ListN.{get_or}
+use Rattle.std.proofs.Common.{ap, ◌∙◌, ◌+◌, ◌*◌, arith, get_or}
 use Rattle.octets.specs.Octets.{placed}
 use Rattle.strings.specs.Strings.{ended}
 use Rattle.strings.specs.Kept.{bytes_at}

@@ -1,8 +1,5 @@
 -- `write_strings` meets its contract. The loop: the strings of the rows passed are written.
-use mathlib.Core.Path.{◌≡◌}
-use mathlib.Core.List.{List}
-use Prim.Native.Nat.{ℕ}
-use lib.ListN.{take}
+use Rattle.std.proofs.Common.{◌≡◌, List, ℕ, take}
 use Rattle.octets.specs.Octets.{placed}
 use Rattle.strings.specs.Strings.{str_of}
 use Rattle.strings.specs.Kept.{Held}

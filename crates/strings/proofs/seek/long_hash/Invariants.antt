@@ -1,7 +1,5 @@
 -- `long_hash` meets its contract. The loop: the groups that are left give the hash from here on.
-use mathlib.Core.Path.{◌≡◌}
-use Prim.Native.Nat.{◌-◌, ◌/◌, ◌<◌, ◌^◌}
-use lib.ListN.{length, drop}
+use Rattle.std.proofs.Common.{◌≡◌, ◌-◌, ◌/◌, ◌<◌, ◌^◌, length, drop}
 use Rattle.strings.specs.Indexed.{groups_from}
 use Rattle.strings.proofs.Hashing.{left}
 use Rattle.strings.proofs.seek.long_hash.Given as goal

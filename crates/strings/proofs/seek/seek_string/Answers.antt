@@ -1,5 +1,5 @@
 -- `seek_string` meets its contract. The loop: the rows passed are other strings', and links lead to later rows.
-use native.Mathlib.Omega.{arith}
+use Rattle.std.proofs.Common.{arith}
 use Rattle.strings.proofs.Hashing.{side_lt}
 use Rattle.strings.proofs.Holding.{search_none, search_free, few_steps, row_met, link_inside, search_found, search_more}
 use Rattle.strings.proofs.seek.seek_string.Goals as goal

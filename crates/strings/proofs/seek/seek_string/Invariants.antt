@@ -1,5 +1,5 @@
 -- `seek_string` meets its contract. The loop: the rows passed are other strings', and links lead to later rows.
-use Prim.Native.Nat.{◌-◌}
+use Rattle.std.proofs.Common.{◌-◌}
 use Rattle.strings.proofs.Holding.{Searching}
 use Rattle.strings.proofs.seek.seek_string.Given as goal
 

@@ -1,5 +1,5 @@
 -- `string_in` meets its contract.
-use native.Mathlib.Omega.{arith}
+use Rattle.std.proofs.Common.{arith}
 use Rattle.strings.proofs.Places.{string_start}
 use Rattle.strings.proofs.table.string_in.Goals as goal
 

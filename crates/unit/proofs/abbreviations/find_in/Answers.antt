@@ -1,5 +1,5 @@
 -- `unit::abbreviations::find_in` meets its contract.
-use native.Mathlib.Omega.{arith}
+use Rattle.std.proofs.Common.{arith}
 use Rattle.unit.proofs.Finding.{finds_none, heads, start_inside, finds_at}
 use Rattle.unit.proofs.abbreviations.find_in.Goals as goal
 

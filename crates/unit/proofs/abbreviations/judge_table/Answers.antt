@@ -1,13 +1,9 @@
 -- `unit::abbreviations::judge_table` meets its contract.
-use mathlib.Core.Path.{◌≡◌, refl, sym, ap, ◌∙◌}
-use Prim.Native.Nat.{◌+◌, ◌≤◌}
-use native.Mathlib.Omega.{arith}
-use lib.ListN.{length, drop}
-use mathlib.Core.Option.{none}
+use Rattle.std.proofs.Common.{◌≡◌, refl, sym, ap, ◌∙◌, ◌+◌, ◌≤◌, arith, length, drop}
+use Rattle.std.specs.Prelude.{Option, Some, None, Ok}
 use Rattle.leb128.specs.Leb128.{unsigned}
-use Rattle.std.specs.Prelude.{Option, Some}
 use Rattle.std.proofs.lemmas.Result.{err_from_is_err_and}
-use Rattle.octets.specs.Checked.{pass, mapped}
+use Rattle.octets.specs.Checked.{mapped}
 use Rattle.unit.specs.Tables.{declared_at, declared_is}
 use Rattle.unit.specs.TableTrees.{Judges}
 use Rattle.unit.specs.declared.abbreviations.Declaration.{Declaration}
@@ -18,11 +14,11 @@ use Rattle.unit.proofs.abbreviations.judge_table.Goals as goal
 use Rattle.unit.proofs.abbreviations.judge_table.Goals.{In-Some, In_default}
 
 -- the declaration at the cursor
-told : (c : In-Some) → declared_at (drop c.loop-declaration.at c.args.s.now) ≡ pass (declared_is (Some c.in-Some.declaration))
+told : (c : In-Some) → declared_at (drop c.loop-declaration.at c.args.s.now) ≡ Ok (declared_is (Some c.in-Some.declaration))
 unfolding mapped
 told c =
     ap declared_at (sym (rest c.loop-declaration.at c.args.s.now)) ∙ sym c.in_ok-declaration.ensures
-    ∙ ap (λ (d : Option Declaration). pass (declared_is d)) c.in-Some.is
+    ∙ ap (λ (d : Option Declaration). Ok (declared_is d)) c.in-Some.is
 
 within : (c : In-Some)
     → (5 ≤ c.in-Some.declaration.place.end)
@@ -41,11 +37,11 @@ returns-in_err-declaration c =
     (judging_not _ _ _ _ c.loop-declaration.invariant.0 _ (ap declared_at (sym (rest c.loop-declaration.at c.args.s.now)) ∙ sym c.in_err-declaration.ensures))
 
 -- the zero code at the cursor
-none_there : (c : In_default) → declared_at (drop c.loop-declaration.at c.args.s.now) ≡ pass none
+none_there : (c : In_default) → declared_at (drop c.loop-declaration.at c.args.s.now) ≡ Ok None
 unfolding mapped
 none_there c =
     ap declared_at (sym (rest c.loop-declaration.at c.args.s.now)) ∙ sym c.in_ok-declaration.ensures
-    ∙ ap (λ (d : Option Declaration). pass (declared_is d)) c.in_default.is
+    ∙ ap (λ (d : Option Declaration). Ok (declared_is d)) c.in_default.is
 
 pub overflow_add-size : goal.overflow_add-size
 overflow_add-size c =

@@ -1,7 +1,5 @@
 -- `unit::abbreviations::judge_table` meets its contract.
-use mathlib.Core.Path.{◌≡◌}
-use Prim.Native.Nat.{◌-◌}
-use lib.ListN.{length}
+use Rattle.std.proofs.Common.{◌≡◌, ◌-◌, length}
 use Rattle.unit.proofs.Judging.{Judging}
 use Rattle.unit.proofs.abbreviations.judge_table.Given as goal
 

@@ -1,7 +1,5 @@
 -- `unit::abbreviations::walk_attributes` meets its contract.
-use mathlib.Core.Path.{◌≡◌}
-use Prim.Native.Nat.{◌-◌, ◌≤◌}
-use lib.ListN.{length, drop}
+use Rattle.std.proofs.Common.{◌≡◌, ◌-◌, ◌≤◌, length, drop}
 use Rattle.unit.specs.Tables.{attributes_size}
 use Rattle.unit.proofs.Sizes.{further}
 use Rattle.unit.proofs.abbreviations.walk_attributes.Given as goal

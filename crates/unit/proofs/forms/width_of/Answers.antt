@@ -1,14 +1,9 @@
 -- `unit::forms::width_of` meets its contract: the first form of the table that is asked for, and its width.
-use mathlib.Core.Path.{◌≡◌, refl, ap, ◌∙◌}
-use mathlib.Core.List.{List, [], ◌∷◌, map}
-use Prim.Native.Nat.{ℕ}
 use native.Mathlib.Decide.{ℕ_discrete}
-use lib.Dec.{eqb}
-use borrow.Author.Tests.{tests, eq-eqb, ne_eqb}
 use Rattle.std.specs.Prelude.{Option, Some, None, option_map, MatchOption}
 use Rattle.std.specs.Option.{IsSomeAnd}
 use Rattle.std.specs.List.{find}
-use Rattle.std.proofs.Common.{rules, Bor}
+use Rattle.std.proofs.Common.{rules, Bor, ◌≡◌, refl, ap, ◌∙◌, List, [], ◌∷◌, map, ℕ, eqb, tests, eq-eqb, ne_eqb}
 use Rattle.std.proofs.lemmas.Iterator.{YieldsList-from_slice}
 use Rattle.std.proofs.lemmas.Iterator.Search.{find_from_yields_List}
 use Rattle.octets.specs.Options.{found}

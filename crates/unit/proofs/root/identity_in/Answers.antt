@@ -1,11 +1,8 @@
 -- `unit::root::identity_in` meets its contract.
-use mathlib.Core.Path.{◌≡◌, refl, sym, ap, ◌∙◌}
-use Prim.Native.Nat.{ℕ, ◌+◌, ◌-◌, ◌≤◌}
-use native.Mathlib.Omega.{arith}
-use lib.ListN.{length}
-use Rattle.std.specs.Prelude.{Option, Some, None}
+use Rattle.std.proofs.Common.{◌≡◌, refl, sym, ap, ◌∙◌, ℕ, ◌+◌, ◌-◌, ◌≤◌, arith, length}
+use Rattle.std.specs.Prelude.{Option, Some, None, Ok}
 use Rattle.std.specs.Option.{ok_or}
-use Rattle.octets.specs.Checked.{pass, mapped}
+use Rattle.octets.specs.Checked.{mapped}
 use Rattle.numbers.specs.Refused.{told}
 use Rattle.numbers.specs.declared.refusals.Refusal.TheVariants.{NoIdentity}
 use Rattle.unit.specs.Root.{needed}
@@ -36,7 +33,7 @@ unfolding mapped
 returns-in_default-clause-is c =
     ap told c.ok_or.ensures.value ∙ told_needed c.loop-step.walk.seen
     ∙ walked_end _ _ _ _ _ c.loop-step.invariant.0 _ c.run_behind-run.ensures.run.0 c.run_behind-run.ensures.run.1
-    (sym (ap (λ (m : Option Move). pass (moved_is m)) c.in_default.is) ∙ c.in_ok-step.ensures)
+    (sym (ap (λ (m : Option Move). Ok (moved_is m)) c.in_default.is) ∙ c.in_ok-step.ensures)
 
 -- what the step behind the run takes
 taken : (c : In-Some) → (1 ≤ c.in-Some.step.taken)
@@ -45,7 +42,7 @@ taken : (c : In-Some) → (1 ≤ c.in-Some.step.taken)
 unfolding mapped
 taken c =
     walked_taken _ _ _ _ _ c.loop-step.invariant.0 _ c.run_behind-run.ensures.run.0 c.run_behind-run.ensures.run.1 _
-    (sym (ap (λ (m : Option Move). pass (moved_is m)) c.in-Some.is) ∙ c.in_ok-step.ensures)
+    (sym (ap (λ (m : Option Move). Ok (moved_is m)) c.in-Some.is) ∙ c.in_ok-step.ensures)
 
 pub overflow_add-walk : goal.overflow_add-walk
 overflow_add-walk c = omega (arith, taken (goal.at.overflow_add-walk c).In-Some, c.loop-step.invariant.0.table)
@@ -60,6 +57,6 @@ pub loop-step-preserved : goal.loop-step-preserved
 unfolding mapped
 loop-step-preserved c = (
   walked_on _ _ _ _ _ c.loop-step.invariant.0 _ c.run_behind-run.ensures.run.0 c.run_behind-run.ensures.run.1 _
-      (sym (ap (λ (m : Option Move). pass (moved_is m)) c.in-Some.is) ∙ c.in_ok-step.ensures) _ refl refl refl refl refl,
+      (sym (ap (λ (m : Option Move). Ok (moved_is m)) c.in-Some.is) ∙ c.in_ok-step.ensures) _ refl refl refl refl refl,
   c.run_behind-run.ensures.memory,
 )

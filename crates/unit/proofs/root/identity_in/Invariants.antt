@@ -1,5 +1,5 @@
 -- `unit::root::identity_in` meets its contract.
-use Prim.Native.Nat.{◌-◌}
+use Rattle.std.proofs.Common.{◌-◌}
 use Rattle.bundle.specs.Encoded.{encoding_is}
 use Rattle.unit.specs.TableTrees.{Lent}
 use Rattle.unit.proofs.AttributeWalk.{Walked}

@@ -1,6 +1,5 @@
 -- `unit::root::root_identity` meets its contract.
-use mathlib.Core.Path.{sym, ◌∙◌}
-use native.Mathlib.Omega.{arith}
+use Rattle.std.proofs.Common.{sym, ◌∙◌, arith}
 use Rattle.bundle.specs.Encoded.{encoding_is}
 use Rattle.unit.specs.Roots.{RootFound}
 use Rattle.unit.proofs.Steps.{leaves}

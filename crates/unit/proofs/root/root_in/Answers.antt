@@ -1,5 +1,5 @@
 -- `unit::root::root_in` meets its contract.
-use mathlib.Core.Path.{sym, ◌∙◌}
+use Rattle.std.proofs.Common.{sym, ◌∙◌}
 use Rattle.std.proofs.lemmas.Result.{err_from_is_err_and}
 use Rattle.octets.specs.Checked.{mapped}
 use Rattle.unit.proofs.Rooted.{found_code, found_missing, found_other, found_root}

@@ -1,6 +1,5 @@
 -- `unit::runs::run_size` meets its contract.
-use Prim.Native.Nat.{◌-◌}
-use lib.ListN.{length}
+use Rattle.std.proofs.Common.{◌-◌, length}
 use Rattle.unit.proofs.Flags.{Running}
 use Rattle.unit.proofs.runs.run_size.Given as goal
 

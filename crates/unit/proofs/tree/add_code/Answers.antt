@@ -1,7 +1,5 @@
 -- `unit::tree::add_code` meets its contract.
-use mathlib.Core.Path.{ap, ◌∙◌}
-use mathlib.Core.List.{List}
-use Prim.Native.Nat.{ℕ, ◌*◌}
+use Rattle.std.proofs.Common.{ap, ◌∙◌, List, ℕ, ◌*◌}
 use Rattle.octets.specs.Octets.{placed}
 use Rattle.octets.proofs.Placed.{placed_byte}
 use Rattle.unit.specs.Trees.{node_of}

@@ -1,9 +1,5 @@
 -- `unit::tree::store_node` meets its contract.
-use mathlib.Core.Path.{ap, ◌∙◌}
-use mathlib.Core.List.{List, [], ◌∷◌}
-use Prim.Native.Nat.{ℕ, ◌*◌}
-use native.Mathlib.Omega.{arith}
-use lib.ListN.{length, get_or}
+use Rattle.std.proofs.Common.{ap, ◌∙◌, List, [], ◌∷◌, ℕ, ◌*◌, arith, length, get_or}
 use Rattle.octets.specs.Octets.{placed}
 use Rattle.octets.proofs.Regions.{placed_whole}
 use Rattle.unit.specs.Trees.{node_of}

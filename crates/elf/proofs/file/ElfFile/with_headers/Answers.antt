@@ -4,7 +4,8 @@ use Rattle.std.proofs.Common.{None, Some}
 use Rattle.std.proofs.lemmas.Option.{MatchOption-at_some, MatchOption-at_none}
 use Rattle.std.proofs.lemmas.Result.{err_from_is_err_and}
 use Rattle.numbers.specs.declared.refusals.Refusal.TheVariants.{NotElf}
-use Rattle.octets.specs.Checked.{mapped, pass}
+use Rattle.std.specs.Prelude.{Ok}
+use Rattle.octets.specs.Checked.{mapped}
 use Rattle.elf.specs.File.{headers_at}
 use Rattle.elf.specs.Classes.{headers_of_class}
 use Rattle.elf.specs.Held.{header_is, with_names}
@@ -63,7 +64,7 @@ returns-clause-file c =
     let t = header_is c.read-t.result in
     let some : c.found_in.result ≡ Some c.in_ok-names.names = grind (arith, c.in_ok-names.ensures.value) in
     let stands = MatchOption-at_some _ _ _ some c.found_in.ensures in
-    ap (λ (z : List ℕ). pass (record { big = a.big; headers = headers_at a.big f 0 at n; names = z })) stands.1
+    ap (λ (z : List ℕ). Ok (record { big = a.big; headers = headers_at a.big f 0 at n; names = z })) stands.1
     ∙ names_there f a.big at n t stands.0
     ∙ ap (with_names f a.big at n) c.read-t.ensures
     ∙ table_there f a.big (sym c.u16_at.ensures ∙ c.if-u16_at-ne1.false) (sym c.u16_at-else-u16_at-ne1.ensures ∙ c.if-u16_at-ne64.false) at n c.u16_at-table.result

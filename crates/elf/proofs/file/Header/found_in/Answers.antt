@@ -1,6 +1,5 @@
 -- `elf::file::Header::found_in` meets its contract.
-use mathlib.Core.Logic.{⊎_elim}
-use Rattle.std.proofs.Common.{◌<◌, length, arith}
+use Rattle.std.proofs.Common.{◌<◌, length, arith, ⊎_elim}
 use Rattle.elf.specs.Held.{header_is}
 use Rattle.elf.proofs.Headers.{unstored_is, empty_is, outside_is, taken_is}
 use Rattle.elf.proofs.file.Header.found_in.Goals as goal

@@ -1,7 +1,5 @@
 -- `elf_writer::sections::Extent::file_size` meets its contract.
-use mathlib.Core.Path.{ap}
-use Prim.Native.Nat.{ℕ, ◌+◌, ◌*◌}
-use native.Mathlib.Omega.{arith}
+use Rattle.std.proofs.Common.{ap, ℕ, ◌+◌, ◌*◌, arith}
 use Rattle.elf_writer.specs.Held.{file_size}
 use Rattle.elf_writer.proofs.Whole.{place_small}
 use Rattle.elf_writer.proofs.sections.Extent.file_size.Goals as goal

@@ -1,5 +1,5 @@
 -- `elf_writer::sections::Extent::headers_place` meets its contract.
-use native.Mathlib.Omega.{arith}
+use Rattle.std.proofs.Common.{arith}
 use Rattle.elf.specs.Writer.{aligned}
 use Rattle.elf_writer.specs.Held.{headers_place}
 use Rattle.elf_writer.proofs.sections.Extent.headers_place.Goals as goal

@@ -1,7 +1,5 @@
 -- `elf_writer::sections::Sections::extended` meets its contract.
-use mathlib.Core.Path.{refl, sym, ap, ◌∙◌}
-use native.Mathlib.Omega.{arith}
-use lib.ListN.{length}
+use Rattle.std.proofs.Common.{refl, sym, ap, ◌∙◌, arith, length}
 use Rattle.elf_writer.specs.Held.{size_at}
 use Rattle.elf_writer.proofs.Cases.{counted_here, counted_not, length_name_here, length_name_not, name_short}
 use Rattle.elf_writer.proofs.sections.Sections.extended.Goals as goal

@@ -1,5 +1,5 @@
 -- `elf_writer::sections::Sections::measure` meets its contract.
-use native.Mathlib.Omega.{arith}
+use Rattle.std.proofs.Common.{arith}
 use Rattle.elf_writer.proofs.Loops.{measuring_none, measuring_more, measuring_end}
 use Rattle.elf_writer.proofs.sections.Sections.measure.Goals as goal
 

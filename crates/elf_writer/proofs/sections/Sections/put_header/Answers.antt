@@ -1,8 +1,5 @@
 -- `elf_writer::sections::Sections::put_header` meets its contract.
-use mathlib.Core.Path.{sym, ap, ◌∙◌}
-use Prim.Native.Nat.{◌+◌}
-use native.Mathlib.Omega.{arith}
-use lib.ListN.{length}
+use Rattle.std.proofs.Common.{sym, ap, ◌∙◌, ◌+◌, arith, length}
 use Rattle.octets.specs.Octets.{placed}
 use Rattle.octets.proofs.Placed.{placed_none}
 use Rattle.elf_writer.specs.Held.{size_at}

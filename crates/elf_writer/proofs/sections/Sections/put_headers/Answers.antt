@@ -1,7 +1,5 @@
 -- `elf_writer::sections::Sections::put_headers` meets its contract.
-use mathlib.Core.Path.{ap, ◌∙◌}
-use native.Mathlib.Omega.{arith}
-use lib.ListN.{length}
+use Rattle.std.proofs.Common.{ap, ◌∙◌, arith, length}
 use Rattle.elf.specs.Writer.{section_header}
 use Rattle.octets.proofs.Placed.{length_placed}
 use Rattle.elf_writer.specs.Held.{first_header}

@@ -1,5 +1,5 @@
 -- `abbreviations` meets its contract.
-use mathlib.Core.Path.{sym, ◌∙◌}
+use Rattle.std.proofs.Common.{sym, ◌∙◌}
 use Rattle.filing.proofs.Telling.{tells_exit}
 use Rattle.filing.proofs.ByPlace.{row_asks}
 use Rattle.filing.proofs.Abbreviated.{given_none}

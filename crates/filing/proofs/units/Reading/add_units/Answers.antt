@@ -1,5 +1,5 @@
 -- `add_units` meets its contract. What the loop keeps is `Walking`, from the work in which the rows are chained, and what is transient.
-use native.Mathlib.Omega.{arith}
+use Rattle.std.proofs.Common.{arith}
 use Rattle.filing.proofs.Telling.{tells_exit}
 use Rattle.filing.proofs.Walking.{place_behind, walking_more, walking_refused, walking_end}
 use Rattle.filing.proofs.Transients.{rows_pass, at_lent, units_lent}

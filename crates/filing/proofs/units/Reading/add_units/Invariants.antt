@@ -1,5 +1,5 @@
 -- `add_units` meets its contract. What the loop keeps is `Walking`, from the work in which the rows are chained, and what is transient.
-use Prim.Native.Nat.{◌-◌}
+use Rattle.std.proofs.Common.{◌-◌}
 use Rattle.filing.specs.Asked.{Transient}
 use Rattle.filing.proofs.Walking.{Walking}
 use Rattle.filing.proofs.units.Reading.add_units.Given as goal

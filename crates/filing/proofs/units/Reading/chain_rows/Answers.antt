@@ -1,5 +1,5 @@
 -- `chain_rows` meets its contract.
-use mathlib.Core.Path.{refl, sym, ◌∙◌}
+use Rattle.std.proofs.Common.{refl, sym, ◌∙◌}
 use Rattle.kept.specs.Regions.{rows_region}
 use Rattle.kept.proofs.RegionStores.{rows_within}
 use Rattle.filing.specs.State.{words_in}

@@ -1,5 +1,5 @@
 -- `file_read` meets its contract.
-use native.Mathlib.Omega.{arith}
+use Rattle.std.proofs.Common.{arith}
 use Rattle.filing.proofs.Telling.{tells_exit}
 use Rattle.filing.proofs.Kept.{seek_asks, known_is, free_is, rows_held}
 use Rattle.filing.proofs.Answering.{known_asks, answer_known, answer_bad, keep_requires, answer_filed}

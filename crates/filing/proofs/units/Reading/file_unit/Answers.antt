@@ -1,5 +1,5 @@
 -- `file_unit` meets its contract.
-use Prim.Native.Nat.{◌-◌}
+use Rattle.std.proofs.Common.{◌-◌}
 use Rattle.octets.specs.Octets.{part}
 use Rattle.filing.proofs.Telling.{tells_exit}
 use Rattle.filing.proofs.ReadAnswers.{answer_refused, read_at, read_fits, read_bytes}

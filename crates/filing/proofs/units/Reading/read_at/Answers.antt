@@ -1,5 +1,5 @@
 -- `read_at` meets its contract.
-use mathlib.Core.Path.{refl, sym}
+use Rattle.std.proofs.Common.{refl, sym}
 use Rattle.filing.proofs.Telling.{told_exit}
 use Rattle.filing.proofs.Abbreviated.{read_headless, size_within, read_unabbreviated, read_unidentified, read_whole}
 use Rattle.filing.proofs.units.Reading.read_at.Goals as goal

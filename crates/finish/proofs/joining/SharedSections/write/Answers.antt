@@ -1,12 +1,7 @@
 -- Each object's section is put behind those before it: `Sharing` is what the loop keeps.
-use mathlib.Core.Path.{◌≡◌, refl, sym, ap, ◌∙◌}
-use mathlib.Core.Bool.{true}
-use mathlib.Core.List.{List}
-use Prim.Native.Nat.{ℕ}
-use native.Mathlib.Omega.{arith}
-use lib.ListN.{length}
+use Rattle.std.proofs.Common.{◌≡◌, refl, sym, ap, ◌∙◌, true, List, ℕ, arith, length}
 use Rattle.bundle.specs.Bundle.{Bundle, bundle_of}
-use Rattle.octets.specs.Checked.{pass}
+use Rattle.std.specs.Prelude.{Ok}
 use Rattle.bundle.specs.Encoded.{encoding_is}
 use Rattle.bundle.proofs.Objects.{objects_other, objects_refused}
 use Rattle.finish.specs.Joining.{sections_joined, remaps, table_lent, StringsPlaced, SharedJoinable}
@@ -17,7 +12,7 @@ use Rattle.finish.proofs.joining.SharedSections.write.Goals as goal
 use Rattle.finish.proofs.joining.SharedSections.write.Goals.{At-loop-next, After-scan_object-scan}
 
 -- these strings, or any others
-abbrev any : (c : At-loop-next) (k : Bundle) (used : List (List ℕ)) → bundle_of c.args.self.now.bundle.now ≡ pass k
+abbrev any : (c : At-loop-next) (k : Bundle) (used : List (List ℕ)) → bundle_of c.args.self.now.bundle.now ≡ Ok k
     → (remaps c.args.self.now.table c.args.code ≡ true → StringsPlaced (encoding_is c.args.self.now.encoding) c.args.self.now.bundle.now (table_lent c.args.self.now.table) k.objects used)
     → SharedJoinable (encoding_is c.args.self.now.encoding) c.args.self.now.bundle.now c.args.self.now.table c.args.code (length c.args.out.now) c.args.at
 any c k used e f = record {
@@ -36,7 +31,7 @@ at-object : (x : After-scan_object-scan)
     → AtObject x.args.self.now.bundle.now x.loop-next.place x.in-Ok-Object.next x.scan_object-scan.result (x.loop-next.invariant.1 a).joining.done a.bundle.objects
 at-object x a =
     let j = (x.loop-next.invariant.1 a).joining in
-    object_scanned _ _ _ _ j.passed _ _ (sym (ap pass x.in-Ok-Object.field-0-is) ∙ x.in-Ok-Object.ensures) _ x.scan_object-scan.ensures
+    object_scanned _ _ _ _ j.passed _ _ (sym (ap Ok x.in-Ok-Object.field-0-is) ∙ x.in-Ok-Object.ensures) _ x.scan_object-scan.ensures
 
 pub loop-next-init : goal.loop-next-init
 loop-next-init c = (refl, λ a. sharing_none _ _ _ _ _ _ a _ (rw c.lent-table.ensures at c.places_from-first.ensures))
@@ -44,7 +39,7 @@ loop-next-init c = (refl, λ a. sharing_none _ _ _ _ _ _ a _ (rw c.lent-table.en
 pub scan_object-scan-requires : goal.scan_object-scan-requires
 scan_object-scan-requires c =
     let j = (c.loop-next.invariant.1 c.requires).joining in
-    object_reaches _ _ _ _ j.passed _ _ (sym (ap pass c.in-Ok-Object.field-0-is) ∙ c.in-Ok-Object.ensures)
+    object_reaches _ _ _ _ j.passed _ _ (sym (ap Ok c.in-Ok-Object.field-0-is) ∙ c.in-Ok-Object.ensures)
 
 pub slice_bounds-bytes-end : goal.slice_bounds-bytes-end
 slice_bounds-bytes-end c =

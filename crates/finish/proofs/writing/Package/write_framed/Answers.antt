@@ -1,8 +1,5 @@
 -- Nothing for an empty section; else its word, its bytes, and the zeros that stand there.
-use mathlib.Core.Path.{sym, ap, ◌∙◌}
-use Prim.Native.Nat.{ℕ, ◌+◌}
-use native.Mathlib.Omega.{arith}
-use lib.ListN.{get_or}
+use Rattle.std.proofs.Common.{sym, ap, ◌∙◌, ℕ, ◌+◌, arith, get_or}
 use Rattle.finish.proofs.SectionSizes.{framed_none, framed_some}
 use Rattle.finish.proofs.Frames.{frame_none}
 use Rattle.finish.proofs.Steps.{frame_room, frame_section, frame_put}

@@ -1,5 +1,5 @@
 -- No rows, no index; else the index of the records and slots in work.
-use native.Mathlib.Omega.{arith}
+use Rattle.std.proofs.Common.{arith}
 use Rattle.finish.proofs.Steps.{no_index, index_few, index_seekable, index_asks, index_leaves}
 use Rattle.finish.proofs.writing.Package.write_index.Goals as goal
 

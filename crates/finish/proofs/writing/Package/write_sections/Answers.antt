@@ -1,6 +1,5 @@
 -- The sections before a code are written: `Writing` is what the loop keeps, for any sections that are ready.
-use mathlib.Core.Path.{◌∙◌}
-use native.Mathlib.Omega.{arith}
+use Rattle.std.proofs.Common.{◌∙◌, arith}
 use Rattle.finish.proofs.Frames.{frame_turn}
 use Rattle.finish.proofs.Steps.{frame_writable}
 use Rattle.finish.proofs.writing.Package.write_sections.Goals as goal

@@ -1,8 +1,5 @@
 -- The sections before a code are written: `Writing` is what the loop keeps, for any sections that are ready.
-use mathlib.Core.Path.{◌≡◌}
-use mathlib.Core.List.{List}
-use Prim.Native.Nat.{ℕ}
-use lib.ListN.{length}
+use Rattle.std.proofs.Common.{◌≡◌, List, ℕ, length}
 use Rattle.finish.specs.Sections.{Sized}
 use Rattle.finish.specs.Writing.{Writing}
 use Rattle.finish.specs.Ready.{ReadyFor}

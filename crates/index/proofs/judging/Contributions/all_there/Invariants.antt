@@ -1,5 +1,5 @@
 -- `index::judging::Contributions::all_there` meets its contract.
-use mathlib.Core.Path.{◌≡◌}
+use Rattle.std.proofs.Common.{◌≡◌}
 use Rattle.octets.specs.Lists.{all}
 use Rattle.index.specs.Contributed.{by_code, has_cell}
 use Rattle.index.specs.Rows.{needed_codes}

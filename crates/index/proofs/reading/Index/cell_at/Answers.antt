@@ -1,5 +1,5 @@
 -- `index::reading::Index::cell_at` meets its contract.
-use native.Mathlib.Omega.{arith}
+use Rattle.std.proofs.Common.{arith}
 use Rattle.index.proofs.Heads.{cell_inside, offsets_held, sizes_held}
 use Rattle.index.proofs.reading.Index.cell_at.Goals as goal
 

@@ -1,6 +1,5 @@
 -- `index::reading::Index::codes_distinct` meets its contract.
-use mathlib.Core.Path.{◌≡◌}
-use lib.ListN.{drop}
+use Rattle.std.proofs.Common.{◌≡◌, drop}
 use Rattle.octets.specs.Lists.{distinct}
 use Rattle.index.proofs.reading.Index.codes_distinct.Given as goal
 

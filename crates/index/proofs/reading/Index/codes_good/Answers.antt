@@ -1,9 +1,5 @@
 -- `index::reading::Index::codes_good` meets its contract.
-use mathlib.Core.Path.{◌∙◌}
-use native.Mathlib.Omega.{arith}
-use borrow.Author.Tests.{tests}
-use lib.ListN.{length, get_or}
-use Rattle.std.proofs.Common.{rules}
+use Rattle.std.proofs.Common.{rules, ◌∙◌, arith, tests, length, get_or}
 use Rattle.std.proofs.lemmas.Iterator.{YieldsList-from_range}
 use Rattle.std.proofs.lemmas.Iterator.Search.{all_from_yields_List}
 use Rattle.index.specs.Index.{code_good}

@@ -1,7 +1,5 @@
 -- `index::reading::Index::find` meets its contract.
-use mathlib.Core.Path.{sym, ap}
-use native.Mathlib.Omega.{arith}
-use native.Mathlib.Nat.{mod-lt}
+use Rattle.std.proofs.Common.{sym, ap, arith, mod-lt}
 use Rattle.index.specs.Held.{PowerOfTwo}
 use Rattle.index.specs.declared.reading.IndexHead.{IndexHead}
 use Rattle.index.proofs.Looks.{probe_start, search_on}

@@ -1,6 +1,5 @@
 -- `index::reading::Index::find` meets its contract.
-use mathlib.Core.Path.{◌≡◌}
-use Prim.Native.Nat.{◌-◌, ◌<◌}
+use Rattle.std.proofs.Common.{◌≡◌, ◌-◌, ◌<◌}
 use Rattle.index.specs.Probing.{look, probe}
 use Rattle.index.proofs.reading.Index.find.Given as goal
 

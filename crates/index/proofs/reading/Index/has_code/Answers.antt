@@ -1,11 +1,5 @@
 -- `index::reading::Index::has_code` meets its contract.
-use mathlib.Core.Path.{◌∙◌}
-use Prim.Native.Nat.{◌-◌}
-use native.Mathlib.Omega.{arith}
-use borrow.Author.Tests.{tests}
-use lib.Dec.{eqb}
-use lib.ListN.{length, get_or}
-use Rattle.std.proofs.Common.{rules}
+use Rattle.std.proofs.Common.{rules, ◌∙◌, ◌-◌, arith, tests, eqb, length, get_or}
 use Rattle.std.proofs.lemmas.Iterator.{YieldsList-from_range}
 use Rattle.std.proofs.lemmas.Iterator.Search.{any_from_yields_List}
 use Rattle.octets.specs.Lists.{has}

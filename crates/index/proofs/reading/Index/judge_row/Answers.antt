@@ -1,5 +1,5 @@
 -- `index::reading::Index::judge_row` meets its contract.
-use mathlib.Core.Path.{◌∙◌}
+use Rattle.std.proofs.Common.{◌∙◌}
 use Rattle.index.specs.Contributed.{judged_row}
 use Rattle.index.proofs.RowAnswers.{answers_refuse, answers_pass, row_absent, row_no_place, row_no_column, row_apart, row_outside, row_good}
 use Rattle.index.proofs.Columned.{there_held, parts_held}

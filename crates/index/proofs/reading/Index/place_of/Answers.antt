@@ -1,10 +1,5 @@
 -- `index::reading::Index::place_of` meets its contract.
-use mathlib.Core.Path.{◌∙◌}
-use native.Mathlib.Omega.{arith}
-use borrow.Author.Tests.{tests}
-use lib.Dec.{eqb}
-use lib.ListN.{length, get_or}
-use Rattle.std.proofs.Common.{rules}
+use Rattle.std.proofs.Common.{rules, ◌∙◌, arith, tests, eqb, length, get_or}
 use Rattle.std.proofs.lemmas.Iterator.{YieldsList-from_range}
 use Rattle.std.proofs.lemmas.Iterator.Search.{position_from_yields_List}
 use Rattle.index.proofs.Ranges.{place_found}

@@ -1,6 +1,5 @@
 -- `index::reading::Index::slots_good` meets its contract.
-use mathlib.Core.Path.{◌≡◌}
-use lib.ListN.{drop}
+use Rattle.std.proofs.Common.{◌≡◌, drop}
 use Rattle.index.specs.Index.{slots_good}
 use Rattle.index.proofs.reading.Index.slots_good.Given as goal
 

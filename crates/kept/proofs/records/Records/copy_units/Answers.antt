@@ -1,5 +1,5 @@
 -- `kept::records::Records::copy_units` meets its contract: records that are left are still to be copied.
-use native.Mathlib.Omega.{arith}
+use Rattle.std.proofs.Common.{arith}
 use Rattle.kept.proofs.Copying.{bytes_room, bytes_more}
 use Rattle.kept.proofs.records.Records.copy_units.Goals as goal
 

@@ -1,5 +1,5 @@
 -- `kept::records::Records::copy_units` meets its contract: records that are left are still to be copied.
-use Prim.Native.Nat.{◌-◌}
+use Rattle.std.proofs.Common.{◌-◌}
 use Rattle.kept.specs.Records.{bytes_from}
 use Rattle.kept.proofs.Copying.{Copying}
 use Rattle.kept.proofs.records.Records.copy_units.Given as goal

@@ -1,5 +1,5 @@
 -- `kept::slots::Slots::of_work` meets its contract.
-use mathlib.Core.Path.{◌≡◌, ap, ◌∙◌}
+use Rattle.std.proofs.Common.{◌≡◌, ap, ◌∙◌}
 use Rattle.kept.specs.Regions.{region, slots_region}
 use Rattle.kept.proofs.Placing.{lent_slots, lent_count}
 use Rattle.kept.proofs.slots.Slots.of_work.Goals as goal

@@ -1,5 +1,5 @@
 -- `kept::slots::Slots::seek` meets its contract: the looks that are left decide the walk.
-use mathlib.Core.Path.{refl}
+use Rattle.std.proofs.Common.{refl}
 use Rattle.kept.proofs.Seeking.{seek_start, seek_on}
 use Rattle.kept.proofs.slots.Slots.seek.Goals as goal
 

@@ -1,5 +1,5 @@
 -- `kept::writing::put_cells` meets its contract: numbers that are left are still to be put.
-use mathlib.Core.Path.{refl}
+use Rattle.std.proofs.Common.{refl}
 use Rattle.kept.proofs.Numbering.{cells_more}
 use Rattle.kept.proofs.writing.IndexForm.put_cells.Goals as goal
 

@@ -1,6 +1,5 @@
 -- `kept::writing::put_cells` meets its contract: numbers that are left are still to be put.
-use Prim.Native.Nat.{◌-◌}
-use lib.ListN.{length}
+use Rattle.std.proofs.Common.{◌-◌, length}
 use Rattle.kept.specs.Columns.{columns_for, cells_from}
 use Rattle.kept.proofs.Numbering.{Writing}
 use Rattle.kept.proofs.writing.IndexForm.put_cells.Given as goal

@@ -1,7 +1,6 @@
 -- `kept::writing::put_codes` meets its contract: codes that are left are still to be put.
 use Rattle.kept.proofs.Numbering.{writing_start, codes_all, codes_more}
-use mathlib.Core.Path.{ap, ◌∙◌}
-use lib.ListN.{length}
+use Rattle.std.proofs.Common.{ap, ◌∙◌, length}
 use Rattle.kept.proofs.Columning.{places_many, place_code}
 use Rattle.kept.proofs.writing.IndexForm.put_codes.Goals as goal
 

@@ -1,5 +1,5 @@
 -- `kept::writing::put_codes` meets its contract: codes that are left are still to be put.
-use Prim.Native.Nat.{◌-◌}
+use Rattle.std.proofs.Common.{◌-◌}
 use Rattle.kept.specs.Columns.{codes_from, codes_in}
 use Rattle.kept.proofs.Numbering.{Writing}
 use Rattle.kept.proofs.writing.IndexForm.put_codes.Given as goal

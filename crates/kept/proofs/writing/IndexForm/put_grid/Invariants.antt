@@ -1,5 +1,5 @@
 -- `kept::writing::put_grid` meets its contract: records that are left are still to be put.
-use Prim.Native.Nat.{◌-◌}
+use Rattle.std.proofs.Common.{◌-◌}
 use Rattle.kept.specs.Indexed.{grid_from, place_of}
 use Rattle.kept.proofs.Numbering.{Writing}
 use Rattle.kept.proofs.writing.IndexForm.put_grid.Given as goal

@@ -1,6 +1,5 @@
 -- `kept::writing::put_slots` meets its contract: numbers that are left are still to be put.
-use mathlib.Core.Path.{refl, ap, ◌∙◌}
-use native.Mathlib.Omega.{arith}
+use Rattle.std.proofs.Common.{refl, ap, ◌∙◌, arith}
 use Rattle.kept.specs.Indexed.{slot_number}
 use Rattle.kept.proofs.Numbering.{map_more}
 use Rattle.kept.proofs.writing.IndexForm.put_slots.Goals as goal

@@ -1,7 +1,5 @@
 -- `kept::writing::put_slots` meets its contract: numbers that are left are still to be put.
-use mathlib.Core.Path.{◌≡◌}
-use mathlib.Core.List.{map}
-use lib.ListN.{drop}
+use Rattle.std.proofs.Common.{◌≡◌, map, drop}
 use Rattle.kept.specs.Indexed.{slot_number, slot_width}
 use Rattle.kept.proofs.Numbering.{Writing}
 use Rattle.kept.proofs.writing.IndexForm.put_slots.Given as goal

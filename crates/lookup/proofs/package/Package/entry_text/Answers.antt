@@ -1,5 +1,5 @@
 -- `lookup::package::Package::entry_text` meets its contract.
-use mathlib.Core.Path.{◌∙◌}
+use Rattle.std.proofs.Common.{◌∙◌}
 use Rattle.octets.specs.Checked.{mapped}
 use Rattle.lookup.specs.Answers.{placed}
 use Rattle.lookup.proofs.Texts.{entry_past, entry_text}

@@ -1,7 +1,6 @@
 -- `lookup::package::Package::text_at` meets its contract.
 use Rattle.lookup.proofs.Texts.{text_fits}
-use native.Mathlib.Omega.{arith}
-use mathlib.Core.Path.{refl}
+use Rattle.std.proofs.Common.{arith, refl}
 use Rattle.lookup.proofs.package.Package.text_at.Goals as goal
 
 pub overflow_add-result : goal.overflow_add-result

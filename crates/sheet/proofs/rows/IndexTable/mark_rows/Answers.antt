@@ -1,8 +1,5 @@
 -- `sheet::rows::IndexTable::mark_rows` meets its contract.
-use mathlib.Core.Path.{◌≡◌, refl, sym, ap, ◌∙◌}
-use Prim.Native.Nat.{suc, ◌-◌, ◌/◌, ◌<◌}
-use native.Mathlib.Omega.{arith}
-use lib.ListN.{length}
+use Rattle.std.proofs.Common.{◌≡◌, refl, sym, ap, ◌∙◌, suc, ◌-◌, ◌/◌, ◌<◌, arith, length}
 use Rattle.sheet.proofs.LawMarks.{length_with_mark}
 use Rattle.sheet.proofs.LawSifted.{sifted_none, sifted_free, sifted_twice, sifted_more}
 use Rattle.sheet.proofs.rows.IndexTable.mark_rows.Goals as goal

@@ -1,6 +1,5 @@
 -- `sheet::rows::IndexTable::mark_rows` meets its contract.
-use mathlib.Core.Path.{◌≡◌}
-use lib.ListN.{length}
+use Rattle.std.proofs.Common.{◌≡◌, length}
 use Rattle.sheet.proofs.LawSifted.{Sifted}
 use Rattle.sheet.proofs.rows.IndexTable.mark_rows.Given as goal
 

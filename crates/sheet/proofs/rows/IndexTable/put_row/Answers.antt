@@ -1,8 +1,5 @@
 -- `sheet::rows::IndexTable::put_row` meets its contract.
-use mathlib.Core.Path.{ap}
-use Prim.Native.Nat.{◌+◌, ◌*◌, ◌≤◌, ◌<◌}
-use native.Mathlib.Omega.{arith}
-use lib.ListN.{length}
+use Rattle.std.proofs.Common.{ap, ◌+◌, ◌*◌, ◌≤◌, ◌<◌, arith, length}
 use Rattle.sheet.proofs.LawIndex.{line_small}
 use Rattle.sheet.proofs.rows.IndexTable.put_row.Goals as goal
 use Rattle.sheet.proofs.rows.IndexTable.put_row.Goals.{In-loop-k}

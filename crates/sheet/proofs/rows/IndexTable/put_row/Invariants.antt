@@ -1,7 +1,5 @@
 -- `sheet::rows::IndexTable::put_row` meets its contract.
-use mathlib.Core.Path.{◌≡◌}
-use Prim.Native.Nat.{◌+◌, ◌*◌, ◌-◌}
-use lib.ListN.{length, drop}
+use Rattle.std.proofs.Common.{◌≡◌, ◌+◌, ◌*◌, ◌-◌, length, drop}
 use Rattle.octets.specs.Octets.{placed}
 use Rattle.sheet.specs.Sheet.{cell_lines, row_lines}
 use Rattle.sheet.proofs.rows.IndexTable.put_row.Given as goal

@@ -1,8 +1,5 @@
 -- `sheet::rows::IndexTable::put_rows` meets its contract.
-use mathlib.Core.Path.{◌≡◌, refl, ap, ◌∙◌}
-use Prim.Native.Nat.{suc, ◌*◌, ◌-◌, ◌≤◌, ◌<◌}
-use native.Mathlib.Omega.{arith}
-use lib.ListN.{length}
+use Rattle.std.proofs.Common.{◌≡◌, refl, ap, ◌∙◌, suc, ◌*◌, ◌-◌, ◌≤◌, ◌<◌, arith, length}
 use Rattle.sheet.proofs.LawLaid.{laid_none, laid_free, laid_put, laid_all}
 use Rattle.sheet.proofs.rows.IndexTable.put_rows.Goals as goal
 use Rattle.sheet.proofs.rows.IndexTable.put_rows.Goals.{After-row_at-row}

@@ -1,6 +1,5 @@
 -- `sheet::rows::IndexTable::put_rows` meets its contract.
-use mathlib.Core.Path.{◌≡◌}
-use lib.ListN.{length}
+use Rattle.std.proofs.Common.{◌≡◌, length}
 use Rattle.sheet.proofs.LawLaid.{laid_from}
 use Rattle.sheet.proofs.rows.IndexTable.put_rows.Given as goal
 

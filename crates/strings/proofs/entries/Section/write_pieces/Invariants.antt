@@ -1,7 +1,5 @@
 -- `write_pieces` meets its contract. The loop: the pieces ahead are to be written still, with the numbers that are left.
-use mathlib.Core.List.{List}
-use Prim.Native.Nat.{ℕ, ◌-◌, ◌≤◌}
-use lib.ListN.{length}
+use Rattle.std.proofs.Common.{List, ℕ, ◌-◌, ◌≤◌, length}
 use Rattle.bundle.specs.Encoded.{encoding_is}
 use Rattle.strings.specs.Headed.{Headed}
 use Rattle.strings.proofs.HeadedWriting.{PiecesAhead}

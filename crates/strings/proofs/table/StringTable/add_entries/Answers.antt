@@ -1,8 +1,5 @@
 -- `add_entries` meets its contract. The loop: the strings of the entries passed are put, and remembered.
-use mathlib.Core.Path.{◌≡◌}
-use mathlib.Core.List.{◌++◌}
-use native.Mathlib.Omega.{arith}
-use lib.ListN.{length, get_or}
+use Rattle.std.proofs.Common.{◌≡◌, ◌++◌, arith, length, get_or}
 use Rattle.strings.specs.Objects.{entries_at}
 use Rattle.strings.proofs.Remembering.{last_starts, last_behind}
 use Rattle.strings.proofs.Adding.{adding_more, adding_missing}

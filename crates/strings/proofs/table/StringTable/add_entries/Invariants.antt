@@ -1,6 +1,5 @@
 -- `add_entries` meets its contract. The loop: the strings of the entries passed are put, and remembered.
-use mathlib.Core.List.{List}
-use Prim.Native.Nat.{ℕ, ◌+◌, ◌≤◌}
+use Rattle.std.proofs.Common.{List, ℕ, ◌+◌, ◌≤◌}
 use Rattle.strings.specs.Remembered.{Putting}
 use Rattle.strings.specs.Objects.{entries_at}
 use Rattle.strings.proofs.Adding.{Adding}

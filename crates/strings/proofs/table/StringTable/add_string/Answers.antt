@@ -1,6 +1,5 @@
 -- `add_string` meets its contract.
-use mathlib.Core.Path.{refl}
-use native.Mathlib.Omega.{arith}
+use Rattle.std.proofs.Common.{refl, arith}
 use Rattle.strings.proofs.Remembering.{string_passed, string_reached, string_room, string_none, known_noted, put_stored, put_over}
 use Rattle.strings.proofs.table.StringTable.add_string.Goals as goal
 

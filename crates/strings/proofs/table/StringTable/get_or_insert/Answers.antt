@@ -1,6 +1,5 @@
 -- `get_or_insert` meets its contract.
-use mathlib.Core.Path.{refl}
-use native.Mathlib.Omega.{arith}
+use Rattle.std.proofs.Common.{refl, arith}
 use Rattle.strings.proofs.Keeping.{put_nothing, found_row, found_put, found_small}
 use Rattle.strings.proofs.table.StringTable.get_or_insert.Goals as goal
 

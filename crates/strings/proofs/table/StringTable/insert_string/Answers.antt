@@ -1,5 +1,5 @@
 -- `insert_string` meets its contract.
-use mathlib.Core.Path.{refl}
+use Rattle.std.proofs.Common.{refl}
 use Rattle.strings.proofs.Keeping.{row_addable, put_passes, put_row}
 use Rattle.strings.proofs.table.StringTable.insert_string.Goals as goal
 

@@ -1,7 +1,5 @@
 -- `put_pieces` meets its contract. The loop: the strings of the pieces passed are put, and those ahead are headed.
-use Prim.Native.Nat.{◌+◌, ◌≤◌}
-use native.Mathlib.Omega.{arith}
-use mathlib.Core.List.{◌++◌}
+use Rattle.std.proofs.Common.{◌+◌, ◌≤◌, arith, ◌++◌}
 use Rattle.std.proofs.lemmas.Result.{err_from_is_err_and}
 use Rattle.strings.proofs.StrOffsets.{sound}
 use Rattle.strings.proofs.Headed.{walk_asks, walk_some, walk_within, pieces_more, pieces_missing, pieces_all, piece_few}

@@ -1,6 +1,5 @@
 -- `put_pieces` meets its contract. The loop: the strings of the pieces passed are put, and those ahead are headed.
-use mathlib.Core.List.{List}
-use Prim.Native.Nat.{ℕ, ◌+◌, ◌*◌, ◌-◌, ◌≤◌}
+use Rattle.std.proofs.Common.{List, ℕ, ◌+◌, ◌*◌, ◌-◌, ◌≤◌}
 use Rattle.bundle.specs.Encoded.{encoding_is}
 use Rattle.strings.specs.Headed.{HeadedOf}
 use Rattle.strings.specs.Remembered.{Putting}

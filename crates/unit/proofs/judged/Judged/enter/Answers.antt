@@ -1,8 +1,5 @@
 -- `unit::judged::Judged::enter` meets its contract.
-use mathlib.Core.Path.{refl, ap, ◌∙◌}
-use Prim.Native.Nat.{◌+◌, ◌^◌, ◌<◌, ◌≤◌}
-use native.Mathlib.Omega.{arith}
-use lib.ListN.{length}
+use Rattle.std.proofs.Common.{refl, ap, ◌∙◌, ◌+◌, ◌^◌, ◌<◌, ◌≤◌, arith, length}
 use Rattle.octets.specs.Octets.{placed}
 use Rattle.octets.proofs.Regions.{placed_whole}
 use Rattle.unit.proofs.Entering.{entered}

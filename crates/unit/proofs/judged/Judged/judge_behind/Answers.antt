@@ -1,5 +1,5 @@
 -- `unit::judged::Judged::judge_behind` meets its contract.
-use mathlib.Core.Path.{refl}
+use Rattle.std.proofs.Common.{refl}
 use Rattle.unit.proofs.Entering.{behind_enters, behind_requires}
 use Rattle.unit.proofs.Recalling.{judged_own, judged_bad, full_bad, knows_part}
 use Rattle.unit.proofs.judged.Judged.judge_behind.Goals as goal

@@ -1,5 +1,5 @@
 -- `unit::judged::Judged::known` meets its contract.
-use mathlib.Core.Path.{refl}
+use Rattle.std.proofs.Common.{refl}
 use Rattle.unit.proofs.Recalling.{last_held, sought_held}
 use Rattle.unit.proofs.judged.Judged.known.Goals as goal
 

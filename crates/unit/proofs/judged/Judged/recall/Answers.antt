@@ -1,5 +1,5 @@
 -- `unit::judged::Judged::recall` meets its contract.
-use native.Mathlib.Omega.{arith}
+use Rattle.std.proofs.Common.{arith}
 use Rattle.unit.proofs.Recalling.{known_none, recalled_known}
 use Rattle.unit.proofs.judged.Judged.recall.Goals as goal
 

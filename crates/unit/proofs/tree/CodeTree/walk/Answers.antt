@@ -1,5 +1,5 @@
 -- `unit::tree::CodeTree::walk` meets its contract.
-use mathlib.Core.Path.{refl, sym, ◌∙◌}
+use Rattle.std.proofs.Common.{refl, sym, ◌∙◌}
 use Rattle.unit.proofs.Trees.{walking_at, walking_on}
 use Rattle.unit.proofs.tree.CodeTree.walk.Goals as goal
 

@@ -1,5 +1,5 @@
 -- `unit::tree::CodeTree::walk` meets its contract.
-use Prim.Native.Nat.{◌-◌}
+use Rattle.std.proofs.Common.{◌-◌}
 use Rattle.unit.proofs.Trees.{Walking}
 use Rattle.unit.proofs.tree.CodeTree.walk.Given as goal
 
