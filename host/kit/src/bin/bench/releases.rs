@@ -202,7 +202,7 @@ impl Runner {
 
     /// Once more, unless it ended otherwise than well before. Each writes a new package: what is there takes time to be looked at.
     fn run(&mut self) -> Result<()> {
-        for package in &self.package {
+        if let Some(package) = &self.package {
             let _ = fs::remove_file(package);
         }
         if self.failed.is_none() {
