@@ -66,12 +66,13 @@ fn refused(code: u32, length: usize) -> Verdict
     }
 }
 
-// Whether a package is another, or answers as that one does.
+// Whether a package is another, or answers as that one does. The memory is zeros again; where both are the same nothing was put there, and nothing is cleared.
 fn compare(theirs: &[u8], ours: &[u8], version: u32, memory: &mut [u32]) -> Result<(), Unverified>
     requires memory { memory.old ≡ zeros (length memory.old) }
     requires ours { Opens ours.now }
     ensures yes { IfOk result (λ _. (theirs.now ≡ ours.now) ⊎ Agrees theirs.now ours.now version) }
     ensures no { IfErr result (λ u. (theirs.now ≡ ours.now → ⊥) × OtherwiseAt theirs.now ours.now version u) }
+    ensures memory { memory.new ≡ zeros (length memory.old) }
 {
     if octets::same_bytes(theirs, ours) {
         return Ok(());
@@ -82,15 +83,18 @@ fn compare(theirs: &[u8], ours: &[u8], version: u32, memory: &mut [u32]) -> Resu
     let Ok(p) = Package::open(theirs) else {
         return Err(Unverified::NoPackage);
     };
-    match agreement::agrees(&Pair { p, q }, version, memory) {
+    let agrees = agreement::agrees(&Pair { p, q }, version, memory);
+    memory.fill(0);
+    match agrees {
         Ok(()) => Ok(()),
         Err(fault) => Err(Unverified::Otherwise(fault)),
     }
 }
 
-// The bundle is packed into the output, and the package has to answer as that one does. Work and output are left as they are then.
+// The bundle is packed into the output, and the package has to answer as that one does. The output is left as it is then.
 fn judge(b: &[u8], work: &mut [u32], out: &mut [u8], theirs: &[u8], version: u32) -> Verdict
-    ensures { VerdictIs b.now (length work.old) (length out.old) theirs.now version result }
+    ensures answer { VerdictIs b.now (length work.old) (length out.old) theirs.now version result }
+    ensures work { work.new ≡ zeros (length work.old) }
 {
     let n = match packer::pack(b, work, out) {
         Ok(n) => n,
@@ -105,7 +109,7 @@ fn judge(b: &[u8], work: &mut [u32], out: &mut [u8], theirs: &[u8], version: u32
     }
 }
 
-// The same, and both are zeros afterwards.
+// The same, and the output is zeros afterwards too.
 #[tactic(auto, unfolding(octets::specs::Octets::zeros))]
 pub fn verify(b: &[u8], work: &mut [u32], out: &mut [u8], theirs: &[u8], version: u32) -> Verdict
     ensures answer { VerdictIs b.now (length work.old) (length out.old) theirs.now version result }
@@ -113,7 +117,6 @@ pub fn verify(b: &[u8], work: &mut [u32], out: &mut [u8], theirs: &[u8], version
     ensures output { out.new ≡ zeros (length out.old) }
 {
     let verdict = judge(b, work, out, theirs, version);
-    work.fill(0);
     out.fill(0);
     verdict
 }

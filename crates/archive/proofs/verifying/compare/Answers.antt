@@ -1,5 +1,6 @@
 -- `archive::verifying::compare` meets its contract.
-use Rattle.std.proofs.Common.{sym, ◌∙◌, subst, inl, List, ℕ}
+use Rattle.std.proofs.Common.{sym, ap, ◌∙◌, subst, inl, List, ℕ}
+use Rattle.octets.specs.Octets.{zeros}
 use Rattle.octets.specs.Checked.{mapped}
 use Rattle.octets.proofs.Lists.{same_eq, same_ne}
 use Rattle.agreement.specs.Agreement.{IsFault}
@@ -23,3 +24,11 @@ returns-in-Err-clause-no c = (
   subst (λ (z : List ℕ). IsFault z c.args.ours.now c.args.version c.in-Err.fault) c.in-Ok-open.ensures.bytes
       (subst (λ (z : List ℕ). IsFault c.in-Ok-open.p.bytes.now z c.args.version c.in-Err.fault) c.in-Ok.ensures.bytes c.in-Err.ensures.fault),
 )
+
+pub returns-in-Ok-agrees-clause-memory : goal.returns-in-Ok-agrees-clause-memory
+unfolding zeros
+returns-in-Ok-agrees-clause-memory c = c.fill.ensures.after (λ y e. e) ∙ ap zeros c.agrees-agrees.auto.memory
+
+pub returns-in-Err-clause-memory : goal.returns-in-Err-clause-memory
+unfolding zeros
+returns-in-Err-clause-memory c = c.fill.ensures.after (λ y e. e) ∙ ap zeros c.agrees-agrees.auto.memory

@@ -1,5 +1,6 @@
 -- `archive::verifying::judge` meets its contract: by those of packing and of comparing, and the theorem.
 use Rattle.std.proofs.Common.{◌≡◌, sym, ap, ◌∙◌, subst, ◌⊎◌, List, ℕ, length, length-take-le}
+use Rattle.octets.specs.Octets.{zeros}
 use Rattle.answers.specs.Outcome.{outcome_as}
 use Rattle.package.specs.Pack.{packed}
 use Rattle.packer.proofs.Answered.{package_fits, it, starts}
@@ -24,14 +25,14 @@ compare-requires-clause-ours c =
     let s = starts a c.in-Ok.n (length c.args.out.now) c.pack.new.out e c.pack.ensures.output in
     subst Opens (sym s) (own_opens c.args.b.now _ _ m.0 (λ i. (c.type_inv.b i).fits) m.1)
 
-pub returns-in-Err : goal.returns-in-Err
-returns-in-Err c = subst
+pub returns-in-Err-clause-answer : goal.returns-in-Err-clause-answer
+returns-in-Err-clause-answer c = subst
     (VerdictIs c.args.b.now (length c.args.work.now) (length c.args.out.now) c.args.theirs.now c.args.version)
     (sym (c.refused.ensures ∙ ap (λ (z : Written). refusal z.code z.length) c.from-written.ensures))
     (verdict_unwritten c.args.b.now _ _ c.args.theirs.now c.args.version c.in-Err.unwritten c.in-Err.ensures.answer)
 
-pub returns-in-Ok-compare : goal.returns-in-Ok-compare
-returns-in-Ok-compare c =
+pub returns-in-Ok-compare-clause-answer : goal.returns-in-Ok-compare-clause-answer
+returns-in-Ok-compare-clause-answer c =
     let a = packed c.args.b.now (length c.args.work.now) (length c.args.out.now) in
     let e = ap outcome_as (sym c.in-Ok.is) ∙ c.pack.ensures.answer in
     let m = it a c.in-Ok.n (length c.args.out.now) c.pack.new.out e c.pack.ensures.output in
@@ -40,8 +41,8 @@ returns-in-Ok-compare c =
     subst (VerdictIs c.args.b.now (length c.args.work.now) (length c.args.out.now) c.args.theirs.now c.args.version) (sym c.refused-in-Ok-compare.ensures)
     (verdict_yes c.args.b.now _ _ c.args.theirs.now c.args.version m.0 m.1 (λ i. (c.type_inv.b i).fits) yes)
 
-pub returns-in-Err-compare : goal.returns-in-Err-compare
-returns-in-Err-compare c =
+pub returns-in-Err-compare-clause-answer : goal.returns-in-Err-compare-clause-answer
+returns-in-Err-compare-clause-answer c =
     let a = packed c.args.b.now (length c.args.work.now) (length c.args.out.now) in
     let e = ap outcome_as (sym c.in-Ok.is) ∙ c.pack.ensures.answer in
     let m = it a c.in-Ok.n (length c.args.out.now) c.pack.new.out e c.pack.ensures.output in
@@ -49,3 +50,9 @@ returns-in-Err-compare c =
     let no = subst (λ (z : List ℕ). (c.args.theirs.now ≡ z → ⊥) × OtherwiseAt c.args.theirs.now z c.args.version c.in-Err-compare.unverified) s c.in-Err-compare.ensures.no in
     subst (VerdictIs c.args.b.now (length c.args.work.now) (length c.args.out.now) c.args.theirs.now c.args.version) (sym c.from.ensures)
     (verdict_no c.args.b.now _ _ c.args.theirs.now c.args.version m.0 m.1 c.in-Err-compare.unverified no.0 no.1)
+
+pub returns-in-Ok-compare-clause-work : goal.returns-in-Ok-compare-clause-work
+returns-in-Ok-compare-clause-work c = c.compare.ensures.memory ∙ ap zeros c.pack.auto.work
+
+pub returns-in-Err-compare-clause-work : goal.returns-in-Err-compare-clause-work
+returns-in-Err-compare-clause-work c = c.compare.ensures.memory ∙ ap zeros c.pack.auto.work
