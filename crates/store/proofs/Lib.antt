@@ -6,4 +6,6 @@ pub mod Units
 pub mod Turns
 pub mod Walks
 pub mod Packages
+pub mod Counts
+pub mod Fitting
 pub mod Examples

@@ -28,7 +28,7 @@ use Rattle.store.proofs.Walks.{short_is, short_not, Ends, bundle_step}
 passed_inputs : (f g : Filing) → ◌≡◌ {A = Result Filing ℕ} (Ok f) (Ok g) → ◌≡◌ {A = Result (List Input) ℕ} (Ok f.inputs) (Ok g.inputs)
 passed_inputs f g e = ap (λ (h : Filing). Ok h.inputs) (pass_inj e)
 
-inputs_again : (b : List ℕ) (k : Bundle) (bases : BySection ℕ) (us : List Filed) (os : List Object) (f : Filing) → filing_from b k.big (first_word k.objects) bases us os ≡ Ok f
+pub inputs_again : (b : List ℕ) (k : Bundle) (bases : BySection ℕ) (us : List Filed) (os : List Object) (f : Filing) → filing_from b k.big (first_word k.objects) bases us os ≡ Ok f
     → inputs_of b k os ≡ Ok f.inputs
 unfolding filing_from inputs_of
 inputs_again b k bases us [] f q = passed_inputs (record { inputs = []; units = [] }) f q

@@ -1,7 +1,7 @@
 -- Rows read back from kept units give the index of the rows that the definitions of package have.
 use Rattle.std.proofs.Common.{◌≡◌, refl, sym, ap, ap₂, ◌∙◌, subst, ⊎_elim, Bool, true, false, ◌||◌, List, [], ◌∷◌, ◌++◌, map, ℕ, suc, eqb, length, eqb-true}
 use Rattle.std.specs.Prelude.{Option, if◌then◌else◌, Some, None}
-use Rattle.octets.specs.Lists.{joined, those, any}
+use Rattle.octets.specs.Lists.{those, any}
 use Rattle.octets.proofs.Checks.{known, true_false}
 use Rattle.octets.proofs.Lists.{any_cons, any_stops, any_append, any_none_head, any_none_tail, those_keeps, those_skips}
 use Rattle.bundle.proofs.Every.{Every, nothing, also}

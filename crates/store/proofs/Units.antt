@@ -2,7 +2,7 @@
 use Rattle.std.proofs.Common.{◌≡◌, refl, sym, ap, ap₂, ◌∙◌, subst, ◌⊎◌, inl, inr, ⊎_elim, Bool, true, false, List, [], ◌∷◌, ◌++◌, map, append-nil, ℕ, ◌+◌, ◌<◌, ◌≤◌, arith, eqb, leb, length, take, drop, get_or, length-append, length-drop, length-take-le, eq-eqb, ne_eqb}
 use Rattle.std.specs.Prelude.{Option, if◌then◌else◌, Some, None, Result, Ok}
 use Rattle.octets.specs.Octets.{part}
-use Rattle.octets.specs.Lists.{any, those, joined, same}
+use Rattle.octets.specs.Lists.{any, same}
 use Rattle.octets.specs.Checked.{◌>>=◌}
 use Rattle.octets.proofs.Checks.{known, bind_pass, require_pass, pass_inj, pass_refuse, then_pass, then_refuse}
 use Rattle.octets.proofs.Parts.{part_part, length_part_le}
