@@ -2,3 +2,4 @@ pub mod Located
 pub mod Tables
 pub mod Memories
 pub mod Strings
+pub mod Faults

@@ -1,6 +1,6 @@
 -- Where what is found lies.
-use Rattle.std.proofs.Common.{◌≡◌, refl, sym, ap, ◌∙◌, List, ℕ, ◌+◌, ◌≤◌, arith, length}
-use Rattle.std.specs.Prelude.{Option, Some, None, Result, Ok, Err, IfSome}
+use Rattle.std.proofs.Common.{◌≡◌, refl, sym, ap, ◌∙◌, List, ℕ, ◌+◌, ◌≤◌, length}
+use Rattle.std.specs.Prelude.{Option, Some, None, Ok, Err, IfSome}
 use Rattle.numbers.specs.declared.refusals.Refusal.{Refusal}
 use Rattle.lookup.specs.Lookup.{Found, refused, absent, part, looked_up, string_found}
 use Rattle.lookup.specs.Answers.{found_in, found_as, Opened, coded, head_in, package_in}

@@ -1,5 +1,5 @@
 -- What is remembered holds, and goes on to hold where more is.
-use Rattle.std.proofs.Common.{◌≡◌, refl, sym, ap, ◌∙◌, subst, ◌⊎◌, inl, inr, ⊎_elim, true, List, ℕ, ◌+◌, ◌*◌, ◌-◌, ◌<◌, ◌≤◌, arith, length, get_or, set, take, drop, length-set, get_or-set_same, get_or-set_other, get_or-take, get_or-drop}
+use Rattle.std.proofs.Common.{◌≡◌, sym, ap, ◌∙◌, subst, ◌⊎◌, ⊎_elim, true, List, ℕ, ◌+◌, ◌*◌, ◌-◌, ◌<◌, ◌≤◌, arith, length, get_or, set, take, drop, length-set, get_or-set_same, get_or-set_other, get_or-take, get_or-drop}
 use Rattle.std.proofs.lemmas.Bool.{cases_eq, cases_lt}
 use Rattle.std.proofs.lemmas.List.{get_or_past}
 use Rattle.octets.proofs.Parts.{length_part_le, part_front}
@@ -8,7 +8,7 @@ use Rattle.octets.specs.Lists.{same}
 use Rattle.octets.proofs.Lists.{same_refl, same_eq}
 use Rattle.octets.proofs.Placed.{get_d_zeros}
 use Rattle.strings.specs.declared.table.Place.{Place}
-use Rattle.agreement.specs.Memory.{Memory, PartsSame, StringsSame}
+use Rattle.agreement.specs.Memory.{Memory, PartsSame}
 
 -- nothing is remembered at first
 pub none_known : (holds : ℕ → ℕ → ℕ → Type 0) (n : ℕ) → Memory holds (zeros n)

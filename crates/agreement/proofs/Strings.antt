@@ -1,5 +1,5 @@
 -- The strings of a part are the same whichever unit has the part.
-use Rattle.std.proofs.Common.{◌≡◌, refl, sym, ap, ◌∙◌, true, List, ◌⊎◌, ⊎_elim, ℕ, ◌+◌, ◌*◌, ◌/◌, ◌<◌, arith, length, get_or, set, eqb-true}
+use Rattle.std.proofs.Common.{◌≡◌, refl, sym, ap, ◌∙◌, subst, true, List, ◌⊎◌, ℕ, ◌+◌, ◌*◌, ◌/◌, ◌<◌, arith, length, get_or, set, eqb-true}
 use Rattle.std.specs.Prelude.{Option, Some, None, ◌==◌, Result, Ok, Err}
 use Rattle.octets.proofs.Checks.{true_false, and_left}
 use Rattle.strings.specs.declared.table.Place.{Place}
@@ -7,7 +7,7 @@ use Rattle.lookup.specs.Lookup.{Found, refused, absent, part, Place as Held, loo
 use Rattle.lookup.specs.Answers.{package_in}
 use Rattle.lookup.specs.declared.searching.Located.{Located}
 use Rattle.lookup.proofs.Lookups.{strung_placed, strung_failed}
-use Rattle.agreement.specs.Agreement.{place_of, part_place, string_place, same_string, string_agrees, section_agrees, same_offsets, entries_within}
+use Rattle.agreement.specs.Agreement.{place_of, part_place, string_place, string_agrees, section_agrees, same_offsets, entries_within, StringsAgree}
 use Rattle.agreement.specs.Memory.{Memory, StringsSame}
 use Rattle.agreement.proofs.Memories.{found_known, kept}
 
@@ -66,14 +66,17 @@ module _ (p q : List ℕ) (v table x : ℕ) (a b : Place) (there : Some a ≡ pa
   within : (k : ℕ) → k < entries_within (part_place q v table x 6) → k < b.size / 4
   within k e = rw (← here) at e
 
+  asked : StringsAgree p q v table x → agree
+  asked h k few = h k (subst (λ (o : Option Place). k < entries_within o) here few)
+
   module _ (m : List ℕ) (known : Memory (StringsSame p q v) m) where
     pub strings_known : (a.size ≡ b.size) × (get_or m (2 * b.start) 0 ≡ a.start + 1) × (get_or m (2 * b.start + 1) 0 ≡ b.size)
-        → (k : ℕ) → k < entries_within (part_place q v table x 6) → string_agrees p q v table x k ≡ true
+        → StringsAgree p q v table x
     strings_known f k few = of_one f.0 (found_known (StringsSame p q v) m a b known f) k (within k few)
 
-    pub strings_kept : (n : List ℕ) → a.size ≡ b.size → agree
+    pub strings_kept : (n : List ℕ) → a.size ≡ b.size → StringsAgree p q v table x
         → (n ≡ m) ⊎ ((2 * b.start + 1 < length m) × (n ≡ set (set m (2 * b.start) (a.start + 1)) (2 * b.start + 1) b.size)) → Memory (StringsSame p q v) n
-    strings_kept n z h e = kept (StringsSame p q v) m a b known n (of_any z h) e
+    strings_kept n z h e = kept (StringsSame p q v) m a b known n (of_any z (asked h)) e
 
 -- ---- parts of str_offsets that agree
 module _ (p q : List ℕ) (v table x : ℕ) (agree : section_agrees p q v table x 6 ≡ true) where

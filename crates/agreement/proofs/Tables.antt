@@ -1,16 +1,14 @@
 -- The index of a table: what it has, and that there is no other.
-use Rattle.std.proofs.Common.{◌≡◌, refl, sym, ap, ◌∙◌, Bool, true, false, ◌&&◌, List, ℕ, arith, length}
-use mathlib.Core.Path.{transport}
+use Rattle.std.proofs.Common.{◌≡◌, refl, sym, ap, Bool, true, false, ◌&&◌, List, ℕ, arith, length}
 use mathlib.Core.Bool.{beq}
 use Rattle.std.specs.Prelude.{Option, Some, None}
 use Rattle.octets.specs.Options.{found}
 use Rattle.bundle.specs.Bundle.{body}
 use Rattle.index.specs.Index.{Index}
-use Rattle.index.specs.Held.{Well}
 use Rattle.index.proofs.Heads.{well_facts}
-use Rattle.lookup.specs.Lookup.{Package, index_for}
+use Rattle.lookup.specs.Lookup.{index_for}
 use Rattle.bundle.specs.declared.encoding.ObjectEncoding.{ObjectEncoding}
-use Rattle.lookup.specs.Answers.{Opened, coded, head_in, package_in, index_code}
+use Rattle.lookup.specs.Answers.{Opened, package_in, index_code}
 use Rattle.lookup.specs.declared.opening.PackageHead.{PackageHead}
 use Rattle.lookup.proofs.Known.{index_known}
 use Rattle.octets.proofs.Checks.{and_left, and_right}

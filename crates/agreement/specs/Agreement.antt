@@ -1,13 +1,13 @@
 -- Whether one package answers as another does: p is asked for each unit that the indexes of q have, and answers with the same bytes, and with the same strings.
-use Rattle.std.specs.Prelude.{◌≡◌, Bool, true, false, ◌&&◌, Option, Some, None, List, ℕ, ◌+◌, ◌/◌, ◌≤◌, ◌<◌, ◌==◌, nat_le, if◌then◌else◌, length, slice_index}
+use Rattle.std.specs.Prelude.{◌≡◌, ◌⊎◌, Bool, true, false, ◌&&◌, Option, Some, None, Ok, List, ℕ, ◌/◌, ◌≤◌, ◌<◌, ◌==◌, nat_le, if◌then◌else◌, length, slice_index}
 use Rattle.std.specs.Bool.{beq}
 use Rattle.numbers.specs.Sections.{str_offsets_code, str_code}
-use Rattle.numbers.specs.Tables.{index5}
+use Rattle.numbers.specs.Tables.{compilation_table, type_table, index5}
 use Rattle.octets.specs.Octets.{part as bytes_at}
 use Rattle.octets.specs.Lists.{same}
 use Rattle.bundle.specs.declared.encoding.ObjectEncoding.{ObjectEncoding}
 use Rattle.index.specs.Index.{Index}
-use Rattle.lookup.specs.Lookup.{Found, refused, absent, part, looked_up, string_found, index_for}
+use Rattle.lookup.specs.Lookup.{Found, refused, absent, part, looked_up, string_found, package_of, index_for}
 use Rattle.lookup.specs.Answers.{coded, package_in}
 use Rattle.strings.specs.declared.table.Place.{Place}
 use Rattle.agreement.specs.declared.Fault.{Fault}
@@ -64,9 +64,17 @@ abbrev pub entries_within : Option Place → ℕ
 entries_within (Some a) = a.size / 4
 entries_within None = 0
 
+-- ---- all that is asked
+abbrev pub SectionsAgree : List ℕ → List ℕ → ℕ → ℕ → ℕ → Type 0
+SectionsAgree p q v table x = (code : ℕ) → 1 ≤ code → code < str_code → section_agrees p q v table x code ≡ true
+
+abbrev pub StringsAgree : List ℕ → List ℕ → ℕ → ℕ → ℕ → Type 0
+StringsAgree p q v table x = (k : ℕ) → k < entries_within (part_place q v table x str_offsets_code) → string_agrees p q v table x k ≡ true
+
+-- a unit: the parts of sections 1 to 10, and the strings of its entries
 pub record UnitAgrees (p q : List ℕ) (v table x : ℕ) : Type 0 where
-  pub sections : (code : ℕ) → 1 ≤ code → code < 11 → section_agrees p q v table x code ≡ true
-  pub strings : (k : ℕ) → k < entries_within (part_place q v table x str_offsets_code) → string_agrees p q v table x k ≡ true
+  pub sections : SectionsAgree p q v table x
+  pub strings : StringsAgree p q v table x
 
 -- each unit that an index has
 abbrev pub IndexAgrees : List ℕ → List ℕ → ℕ → ℕ → Index → Type 0
@@ -79,20 +87,42 @@ TableAgrees p q v table = (i : Index) → index_for (package_in q) table ≡ Som
 abbrev pub same_encoding : ObjectEncoding → ObjectEncoding → Bool
 same_encoding a b = beq a.big b.big && beq a.five b.five && beq a.wide b.wide && beq a.long b.long
 
--- p states what q states, byte order, version and widths, and answers as q does
+abbrev pub states_same : List ℕ → List ℕ → Bool
+states_same p q = same_encoding (coded (package_in p).encoding) (coded (package_in q).encoding)
+
+-- p is a package, it states what q states, byte order, version and widths, and it answers as q does
 pub record Agrees (p q : List ℕ) (v : ℕ) : Type 0 where
-  pub encoding : same_encoding (coded (package_in p).encoding) (coded (package_in q).encoding) ≡ true
-  pub compilation : TableAgrees p q v 1
-  pub types : TableAgrees p q v 2
+  pub opens : package_of p ≡ Ok (package_in p)
+  pub encoding : states_same p q ≡ true
+  pub compilation : TableAgrees p q v compilation_table
+  pub types : TableAgrees p q v type_table
 
--- whether p answers as q does at a place: section 0 is what both state, 11 the string of an entry, any other the part of that section
-abbrev pub agrees_at : List ℕ → List ℕ → ℕ → Fault → Bool
-agrees_at p q v f =
-    if f.section == 0
-    then same_encoding (coded (package_in p).encoding) (coded (package_in q).encoding)
-    else if f.section == str_code
-    then string_agrees p q v f.table f.identity f.entry
-    else section_agrees p q v f.table f.identity f.section
+-- ---- a fault: something of this that is asked, and is not so
+-- of a unit: the part of a section; or at section 11 the string of an entry
+abbrev pub PartFault : List ℕ → List ℕ → ℕ → ℕ → ℕ → Fault → Type 0
+PartFault p q v table x f = (1 ≤ f.section) × (f.section < str_code) × (section_agrees p q v table x f.section ≡ false)
 
+abbrev pub StringFault : List ℕ → List ℕ → ℕ → ℕ → ℕ → Fault → Type 0
+StringFault p q v table x f =
+    (f.section ≡ str_code) × (f.entry < entries_within (part_place q v table x str_offsets_code)) × (string_agrees p q v table x f.entry ≡ false)
+
+pub record UnitFault (p q : List ℕ) (v table x : ℕ) (f : Fault) : Type 0 where
+  pub in_table : f.table ≡ table
+  pub under : f.identity ≡ x
+  pub otherwise : PartFault p q v table x f ⊎ StringFault p q v table x f
+
+-- of a unit that an index has
+pub record IndexFault (p q : List ℕ) (v table : ℕ) (i : Index) (f : Fault) : Type 0 where
+  pub slot : ℕ
+  pub inside : slot < length i.rows
+  pub used : slice_index i.rows slot ≡ 0 → ⊥
+  pub unit : UnitFault p q v table (slice_index i.identities slot) f
+
+pub record TableFault (p q : List ℕ) (v table : ℕ) (f : Fault) : Type 0 where
+  pub index : Index
+  pub there : index_for (package_in q) table ≡ Some index
+  pub fault : IndexFault p q v table index f
+
+-- of one of the tables; or at section 0 they state something else
 abbrev pub IsFault : List ℕ → List ℕ → ℕ → Fault → Type 0
-IsFault p q v f = agrees_at p q v f ≡ false
+IsFault p q v f = ((f.section ≡ 0) × (states_same p q ≡ false)) ⊎ TableFault p q v compilation_table f ⊎ TableFault p q v type_table f

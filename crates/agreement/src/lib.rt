@@ -7,8 +7,7 @@ pub mod units;
 
 ghost use Rattle.std.specs.Prelude.{◌≡◌, IsTrue, IfErr, IfOk, length};
 ghost use Rattle.octets.specs.Octets.{zeros};
-ghost use Rattle.lookup.specs.Answers.{coded, package_in};
-ghost use Rattle.agreement.specs.Agreement.{Agrees, IsFault, same_encoding};
+ghost use Rattle.agreement.specs.Agreement.{Agrees, IsFault, same_encoding, states_same};
 
 use bundle::encoding::ObjectEncoding;
 use lookup::package::Package;
@@ -44,7 +43,7 @@ fn same_encoding(a: ObjectEncoding, b: ObjectEncoding) -> bool
 // Whether both packages state them.
 #[tactic(auto, using(crate::proofs::Located::stated))]
 fn states_same(p: &Package, q: &Package) -> bool
-    ensures { result ≡ same_encoding (coded (package_in p.now.bytes.now).encoding) (coded (package_in q.now.bytes.now).encoding) }
+    ensures { result ≡ states_same p.now.bytes.now q.now.bytes.now }
 {
     same_encoding(p.head.encoding, q.head.encoding)
 }

@@ -5,9 +5,13 @@ ghost use Rattle.octets.specs.Octets.{part as bytes_at};
 ghost use Rattle.octets.specs.Lists.{same};
 ghost use Rattle.agreement.specs.Agreement.{
   IndexAgrees,
-  IsFault,
+  IndexFault,
+  SectionsAgree,
+  StringsAgree,
   TableAgrees,
+  TableFault,
   UnitAgrees,
+  UnitFault,
   entries_within,
   part_place,
   section_agrees,
@@ -73,8 +77,8 @@ impl<'a> Pair<'a> {
     // All sections of a unit.
     fn sections_agree(&self, unit: UnitAsked, parts: &mut [u32]) -> Result<(), Fault>
         requires parts { Memory (PartsSame self.now.p.bytes.now self.now.q.bytes.now) parts.old }
-        ensures agree { IfOk result (λ _. (code : ℕ) → 1 ≤ code → code < 11 → section_agrees self.now.p.bytes.now self.now.q.bytes.now unit.version unit.table unit.identity code ≡ true) }
-        ensures fault { IfErr result (λ f. IsFault self.now.p.bytes.now self.now.q.bytes.now unit.version f) }
+        ensures agree { IfOk result (λ _. SectionsAgree self.now.p.bytes.now self.now.q.bytes.now unit.version unit.table unit.identity) }
+        ensures fault { IfErr result (UnitFault self.now.p.bytes.now self.now.q.bytes.now unit.version unit.table unit.identity) }
         ensures parts { Memory (PartsSame self.now.p.bytes.now self.now.q.bytes.now) parts.new }
     {
         for code in 1..11u32 {
@@ -90,10 +94,11 @@ impl<'a> Pair<'a> {
         Ok(())
     }
 
-    // The strings of a unit's entries, of which q's part has fewer than so many.
+    // The strings of a unit's entries, of which q's part has so many at most.
     fn entries_agree(&self, unit: UnitAsked, count: usize) -> Result<(), Fault>
-        ensures agree { IfOk result (λ _. (k : ℕ) → k < count → string_agrees self.now.p.bytes.now self.now.q.bytes.now unit.version unit.table unit.identity k ≡ true) }
-        ensures fault { IfErr result (λ f. IsFault self.now.p.bytes.now self.now.q.bytes.now unit.version f) }
+        requires count { count ≡ entries_within (part_place self.now.q.bytes.now unit.version unit.table unit.identity str_offsets_code) }
+        ensures agree { IfOk result (λ _. StringsAgree self.now.p.bytes.now self.now.q.bytes.now unit.version unit.table unit.identity) }
+        ensures fault { IfErr result (UnitFault self.now.p.bytes.now self.now.q.bytes.now unit.version unit.table unit.identity) }
     {
         for k in 0..count {
             if !string_agrees(&self.p, &self.q, unit, k as u64) {
@@ -113,8 +118,8 @@ impl<'a> Pair<'a> {
     fn strings_agree(&self, unit: UnitAsked, strings: &mut [u32]) -> Result<(), Fault>
         requires strings { Memory (StringsSame self.now.p.bytes.now self.now.q.bytes.now unit.version) strings.old }
         requires offsets { section_agrees self.now.p.bytes.now self.now.q.bytes.now unit.version unit.table unit.identity str_offsets_code ≡ true }
-        ensures agree { IfOk result (λ _. (k : ℕ) → k < entries_within (part_place self.now.q.bytes.now unit.version unit.table unit.identity str_offsets_code) → string_agrees self.now.p.bytes.now self.now.q.bytes.now unit.version unit.table unit.identity k ≡ true) }
-        ensures fault { IfErr result (λ f. IsFault self.now.p.bytes.now self.now.q.bytes.now unit.version f) }
+        ensures agree { IfOk result (λ _. StringsAgree self.now.p.bytes.now self.now.q.bytes.now unit.version unit.table unit.identity) }
+        ensures fault { IfErr result (UnitFault self.now.p.bytes.now self.now.q.bytes.now unit.version unit.table unit.identity) }
         ensures strings { Memory (StringsSame self.now.p.bytes.now self.now.q.bytes.now unit.version) strings.new }
     {
         let Some(b) = part_of(&self.q, unit, STR_OFFSETS as u32) else {
@@ -143,7 +148,7 @@ impl<'a> Pair<'a> {
         requires parts { Memory (PartsSame self.now.p.bytes.now self.now.q.bytes.now) parts.old }
         requires strings { Memory (StringsSame self.now.p.bytes.now self.now.q.bytes.now unit.version) strings.old }
         ensures agree { IfOk result (λ _. UnitAgrees self.now.p.bytes.now self.now.q.bytes.now unit.version unit.table unit.identity) }
-        ensures fault { IfErr result (λ f. IsFault self.now.p.bytes.now self.now.q.bytes.now unit.version f) }
+        ensures fault { IfErr result (UnitFault self.now.p.bytes.now self.now.q.bytes.now unit.version unit.table unit.identity) }
         ensures parts { Memory (PartsSame self.now.p.bytes.now self.now.q.bytes.now) parts.new }
         ensures strings { Memory (StringsSame self.now.p.bytes.now self.now.q.bytes.now unit.version) strings.new }
     {
@@ -164,7 +169,7 @@ impl<'a> Pair<'a> {
         requires parts { Memory (PartsSame self.now.p.bytes.now self.now.q.bytes.now) parts.old }
         requires strings { Memory (StringsSame self.now.p.bytes.now self.now.q.bytes.now version) strings.old }
         ensures agree { IfOk result (λ _. IndexAgrees self.now.p.bytes.now self.now.q.bytes.now version table index.now) }
-        ensures fault { IfErr result (λ f. IsFault self.now.p.bytes.now self.now.q.bytes.now version f) }
+        ensures fault { IfErr result (IndexFault self.now.p.bytes.now self.now.q.bytes.now version table index.now) }
         ensures parts { Memory (PartsSame self.now.p.bytes.now self.now.q.bytes.now) parts.new }
         ensures strings { Memory (StringsSame self.now.p.bytes.now self.now.q.bytes.now version) strings.new }
     {
@@ -191,7 +196,7 @@ impl<'a> Pair<'a> {
         requires parts { Memory (PartsSame self.now.p.bytes.now self.now.q.bytes.now) parts.old }
         requires strings { Memory (StringsSame self.now.p.bytes.now self.now.q.bytes.now version) strings.old }
         ensures agree { IfOk result (λ _. TableAgrees self.now.p.bytes.now self.now.q.bytes.now version table) }
-        ensures fault { IfErr result (λ f. IsFault self.now.p.bytes.now self.now.q.bytes.now version f) }
+        ensures fault { IfErr result (TableFault self.now.p.bytes.now self.now.q.bytes.now version table) }
         ensures parts { Memory (PartsSame self.now.p.bytes.now self.now.q.bytes.now) parts.new }
         ensures strings { Memory (StringsSame self.now.p.bytes.now self.now.q.bytes.now version) strings.new }
     {

@@ -1,7 +1,7 @@
 -- The package as the lookups read it, for what is asked; and what is not handed in is absent.
 use Rattle.std.proofs.Common.{◌≡◌, refl, sym, ap, ◌∙◌, subst, ◌⊎◌, inl, inr, ⊎_elim, true, false, ◌&&◌, ◌||◌, List, [], ◌∷◌, ℕ, ◌-◌, ◌<◌, ◌≤◌, eqb, length, get_or, eqb-true}
 use Rattle.std.specs.Prelude.{Option, Some, None, Result, Ok}
-use Rattle.octets.specs.Lists.{any, has, those}
+use Rattle.octets.specs.Lists.{any, has}
 use Rattle.octets.proofs.Checks.{true_false, pass_inj, and_both}
 use Rattle.octets.proofs.Numbers.{Bytes}
 use Rattle.bundle.specs.Bundle.{Object}

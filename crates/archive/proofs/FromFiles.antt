@@ -159,6 +159,7 @@ module _ (f : List ℕ) (fs : List (List ℕ)) (b : List ℕ) (h : HoldsAll b (f
 
   found_in : (p : List ℕ) (v : ℕ) → Verified b p v → FirstUnitsFound (f ∷ fs) (handed_in b) p v
   found_in p v r = record {
+    opens = r.opens;
     found = λ table x u q first. r.units table x u (asked_of v table q) first;
     states = λ big o os each e.
         let first = first_object b h.bundle.objects o os (h.objects ∙ e) in

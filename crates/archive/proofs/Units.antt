@@ -4,7 +4,7 @@ use Rattle.std.specs.Prelude.{Option, Some, None}
 use lib.Seq.{get_or-append_seam}
 use borrow.Author.Tests.{eqb-false}
 use Rattle.octets.specs.Octets.{part as bytes_at}
-use Rattle.octets.specs.Lists.{has, all}
+use Rattle.octets.specs.Lists.{has}
 use Rattle.octets.proofs.Checks.{known}
 use Rattle.octets.proofs.Numbers.{Bytes}
 use Rattle.octets.proofs.Parts.{length_part}

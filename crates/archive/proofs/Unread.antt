@@ -4,7 +4,7 @@ use Rattle.std.specs.Prelude.{None, Result, Ok, Err}
 use native.Mathlib.Decide.{dec_le}
 use Rattle.numbers.specs.Sections.{info_code}
 use Rattle.numbers.specs.Refusals.{no_unit}
-use Rattle.octets.specs.Lists.{joined, any, those}
+use Rattle.octets.specs.Lists.{any}
 use Rattle.octets.proofs.Checks.{known, or_cases}
 use Rattle.octets.proofs.Lists.{any_none_head, any_none_tail}
 use Rattle.octets.proofs.Numbers.{Bytes}

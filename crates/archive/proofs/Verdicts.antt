@@ -14,6 +14,7 @@ use Rattle.lookup.specs.Answers.{opened}
 use Rattle.lookup.proofs.Lookups.{closed}
 use Rattle.lookup.proofs.Packages.{package_refused}
 use Rattle.agreement.specs.Agreement.{Agrees}
+use Rattle.agreement.proofs.Faults.{fault_disagrees}
 use Rattle.archive.specs.Theorem.{AreBytes}
 use Rattle.archive.specs.Verified.{Verified, VerdictIs, Judged, refusal}
 use Rattle.archive.specs.Compared.{Opens, OtherwiseAt, unverified}
@@ -46,15 +47,23 @@ module _ (b : List ℕ) (w o : ℕ) (p : List ℕ) (v : ℕ) (q : List ℕ) (e :
   pub verdict_yes : AreBytes b → (p ≡ q) ⊎ Agrees p q v → VerdictIs b w o p v (refusal 0 0)
   verdict_yes h a = record {
     yes = λ z. ⊎_elim (λ f. subst (λ (r : List ℕ). Verified b r v) (sym f) (verified_own b w o q v h e)) (λ g. verified_answers b w o q p v h e g) a;
+    exactly = λ z f. ((λ c. subst (λ (r : List ℕ). (p ≡ r) ⊎ Agrees p r v) (only z f) a), (λ c. refl));
     own = λ f. refl;
     judged = λ z f. inl refl;
     not_packed = λ n f. not_refused n f;
     too_short = λ n f. not_short n f;
   }
 
-  no_yes : (u : Unverified) → (unverified u).code ≡ 0 → Verified b p v
-  no_yes NoPackage z = absurd (omega arith)
-  no_yes (Otherwise f) z = absurd (omega arith)
+  no_zero : (u : Unverified) → (unverified u).code ≡ 0 → ⊥
+  no_zero NoPackage z = omega arith
+  no_zero (Otherwise f) z = omega arith
+
+  disagrees : (u : Unverified) → OtherwiseAt p q v u → Agrees p q v → ⊥
+  disagrees NoPackage z g = absurd (let y = sym g.opens ∙ z in let n : ◌≡◌ {A = ℕ} 0 1 = cc in omega arith)
+  disagrees (Otherwise f) z g = fault_disagrees p q v f z g
+
+  neither : (u : Unverified) → (p ≡ q → ⊥) → OtherwiseAt p q v u → (r : List ℕ) → packed b w o ≡ made r → (p ≡ r) ⊎ Agrees p r v → ⊥
+  neither u other at r f = subst (λ (z : List ℕ). (p ≡ z) ⊎ Agrees p z v → ⊥) (only r f) (⊎_elim (λ e. other e) (λ g. disagrees u at g))
 
   no_judged : (u : Unverified) → OtherwiseAt p q v u → Judged q p v (unverified u)
   no_judged NoPackage z = inr (inl (z, refl))
@@ -62,7 +71,8 @@ module _ (b : List ℕ) (w o : ℕ) (p : List ℕ) (v : ℕ) (q : List ℕ) (e :
 
   pub verdict_no : (u : Unverified) → (p ≡ q → ⊥) → OtherwiseAt p q v u → VerdictIs b w o p v (unverified u)
   verdict_no u other at = record {
-    yes = λ z. no_yes u z;
+    yes = λ z. absurd (no_zero u z);
+    exactly = λ z f. ((λ c. absurd (no_zero u c)), (λ c. absurd (neither u other at z f c)));
     own = λ f. absurd (other (sym (only p f)));
     judged = λ z f. subst (λ (r : List ℕ). Judged r p v (unverified u)) (only z f) (no_judged u at);
     not_packed = λ n f. not_refused n f;
@@ -78,6 +88,7 @@ module _ (b : List ℕ) (w o : ℕ) (p : List ℕ) (v : ℕ) where
   refused_verdict : (m : ℕ) → packed b w o ≡ refused m → VerdictIs b w o p v (refusal m 0)
   refused_verdict m e = record {
     yes = λ z. absurd (refuses_some b w o m e z);
+    exactly = λ q f. absurd (let g : refused m ≡ made q = sym e ∙ f in let z : ◌≡◌ {A = ℕ} 0 1 = cc in omega arith);
     own = λ f. absurd (let g : refused m ≡ made p = sym e ∙ f in let z : ◌≡◌ {A = ℕ} 0 1 = cc in omega arith);
     judged = λ q f. absurd (let g : refused m ≡ made q = sym e ∙ f in let z : ◌≡◌ {A = ℕ} 0 1 = cc in omega arith);
     not_packed = λ n f. (let g : refused m ≡ refused n = sym e ∙ f in let z : m ≡ n = cc in ap (λ (k : ℕ). refusal k 0) z);
@@ -87,6 +98,7 @@ module _ (b : List ℕ) (w o : ℕ) (p : List ℕ) (v : ℕ) where
   short_verdict : (m : ℕ) → packed b w o ≡ short m → VerdictIs b w o p v (refusal 18 m)
   short_verdict m e = record {
     yes = λ z. absurd (omega arith);
+    exactly = λ q f. absurd (let g : short m ≡ made q = sym e ∙ f in let z : ◌≡◌ {A = ℕ} 0 1 = cc in omega arith);
     own = λ f. absurd (let g : short m ≡ made p = sym e ∙ f in let z : ◌≡◌ {A = ℕ} 0 1 = cc in omega arith);
     judged = λ q f. absurd (let g : short m ≡ made q = sym e ∙ f in let z : ◌≡◌ {A = ℕ} 0 1 = cc in omega arith);
     not_packed = λ n f. absurd (let g : short m ≡ refused n = sym e ∙ f in let z : ◌≡◌ {A = ℕ} 0 1 = cc in omega arith);

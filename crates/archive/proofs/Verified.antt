@@ -207,6 +207,7 @@ module _ (b : List ℕ) (w o : ℕ) (q p : List ℕ) (v : ℕ) (h : AreBytes b) 
 
 pub verified_answers : VerifiedAnswers
 verified_answers b w o q p v h e g = record {
+  opens = g.opens;
   encoding = λ k f any. encodings_same _ _ g.encoding ∙ own_encoding b w o q h e k f any;
   units = has_unit b w o q p v h e g;
 }
@@ -215,7 +216,9 @@ verified_answers b w o q p v h e g = record {
 pub verified_own : (b : List ℕ) (w o : ℕ) (q : List ℕ) (v : ℕ) → AreBytes b → packed b w o ≡ made q → Verified b q v
 verified_own b w o q v h e =
     let d = from_bundle_to_answer b w o q h e in
+    let op = opens b q (packed_accepted b w o q e) h in
     record {
+      opens = op.read ∙ ap Ok (sym (package_is q op.k op.read));
       encoding = λ k f any. own_encoding b w o q h e k f any;
       units = λ table x u asked first. record {
         parts = λ code is other.

@@ -11,7 +11,7 @@ use Rattle.package.specs.Pack.{packed, made, handed_in}
 use Rattle.package.specs.Units.{FillObjects, IsUnit}
 use Rattle.packer.specs.Told.{numbered as told}
 use Rattle.packer.specs.declared.answering.Packed.{Packed}
-use Rattle.lookup.specs.Lookup.{Found, absent, looked_up, string_found}
+use Rattle.lookup.specs.Lookup.{Found, absent, package_of, looked_up, string_found}
 use Rattle.lookup.specs.Answers.{coded, package_in}
 use Rattle.join.specs.Join.{file_bundle}
 use Rattle.join.specs.Laws.{joined_all, all_objects, AllBytes, EachRead}
@@ -68,6 +68,8 @@ IsAbsent f = (looks : ℕ) × (f ≡ absent looks)
 
 -- whoever holds p and asks it in a version
 pub record FirstUnitsFound (fs : List (List ℕ)) (us : List Filed) (p : List ℕ) (v : ℕ) : Type 0 where
+  -- has a package
+  pub opens : package_of p ≡ Ok (package_in p)
   -- finds under a table and an identity the first unit: its bytes, its parts and its strings
   pub found : (table x : ℕ) (u : Filed) → AskedOf fs v table → FirstOf us table x u → HasUnit p v table x u
   -- p states the byte order of the files, and the version and the widths of their first object

@@ -1,5 +1,5 @@
 -- What it says of a package that it was verified: it answers with what was handed in, whoever wrote it.
-use Rattle.std.specs.Prelude.{◌≡◌, ◌⊎◌, List, [], ℕ, ◌<◌, length, slice_index, Ok, Err}
+use Rattle.std.specs.Prelude.{◌≡◌, ◌⊎◌, ◌↔◌, List, [], ℕ, ◌<◌, length, slice_index, Ok, Err}
 use Rattle.numbers.specs.Refusals.{no_string, bad_package, output_short}
 use Rattle.numbers.specs.Sections.{str_offsets_code, str_code}
 use Rattle.octets.specs.Octets.{part as bytes_at}
@@ -28,6 +28,8 @@ pub record HasUnit (p : List ℕ) (v table x : ℕ) (u : Filed) : Type 0 where
       → (string : List ℕ) × (string_at no_string (u.input.bytes str_code) (slice_index (entries_of_unit u) k) ≡ Ok string) × Holding p (string_found p v table x k) string
 
 pub record Verified (b p : List ℕ) (v : ℕ) : Type 0 where
+  -- it is a package
+  pub opens : package_of p ≡ Ok (package_in p)
   -- what it states is what the first object of b states
   pub encoding : (k : Bundle) → bundle_of b ≡ Ok k → (k.objects ≡ [] → ⊥) → coded (package_in p).encoding ≡ coded (encoding_of k.big (first_word k.objects))
   -- and it has each unit that was handed in with b and is the first under its identity
@@ -57,9 +59,11 @@ Judged q p v r = (r ≡ refusal 0 0) ⊎ ((package_of p ≡ Err bad_package) × 
 pub record VerdictIs (b : List ℕ) (w o : ℕ) (p : List ℕ) (v : ℕ) (r : Verdict) : Type 0 where
   -- if it says yes, everything is there
   pub yes : r.code ≡ 0 → Verified b p v
+  -- it says yes exactly of the bundle's own package and of those that answer as that one does
+  pub exactly : (q : List ℕ) → packed b w o ≡ made q → (r.code ≡ 0) ↔ ((p ≡ q) ⊎ Agrees p q v)
   -- it says yes of the package of an accepted bundle
   pub own : packed b w o ≡ made p → r.code ≡ 0
-  -- a no is said of a fault
+  -- a no names a fault
   pub judged : (q : List ℕ) → packed b w o ≡ made q → Judged q p v r
   -- a bundle that packing refuses has packing's number, and the length needed where the output is too short
   pub not_packed : (n : ℕ) → packed b w o ≡ refused n → r ≡ refusal n 0
