@@ -174,9 +174,9 @@ unfolding Checked.◌>>=◌ Checked.require Checked.renumbered Lists.sum Lists.s
 asked = record { long = refl; version = refl; answered = refl; repeat_is = refl; namesake_is = refl; is_short = refl; byte_left = refl; nothing_left = refl }
 
 pub small_read : bundle32_read small_file ≡ Ok small_bundle
-unfolding Names.dwo_words Names.index_words Names.name_prefix Names.name_suffix Names.dwo_name Names.index_name Names.section_names Checked.◌>>=◌ Checked.require Lists.same Octets.part Octets.little Octets.big_from Octets.number Octets.number_at Octets.little_of Octets.big_of Octets.bytes_of Octets.numbers_of Octets.zeros Bundle.filled_up InitialLength.marked InitialLength.length_field InitialLength.length_stated BundleWritten.word_bytes BundleWritten.head_bytes BundleWritten.section_bytes BundleWritten.object_bytes BundleWritten.end_bytes BundleWritten.written UnitRead.length_good UnitRead.unit_size UnitRead.is_five UnitRead.address_place UnitRead.common_size UnitRead.behind_common UnitRead.identity_five UnitRead.identity_of UnitRead.unit_by UnitRead.unit_of UnitRead.not_eleven UnitRead.header_passes ElfFile.header_at ElfFile.headers_at ElfFile.unstored ElfFile.body_of ElfFile.inside ElfFile.file_of ElfFile.starts_with ElfFile.code_among ElfFile.code_of ElfFile.is_wanted ElfFile.ended ElfFile.wanted_of ElfFile.sections_inside ElfFile.elf_of ElfReader.compressed ElfReader.relocates ElfReader.readable ElfReader.first_info ElfReader.width_stated ElfReader.version_stated ElfReader.encoding_stated ElfReader.unit_stated ElfReader.object_word ElfReader.sections_read ElfReader.bundle_of_word ElfReader.bundle_from ElfReader.bundle_read ElfReader.elf_read Elf32.header32_at Elf32.headers32_at Elf32.file32_of Elf32.elf32_of Elf32.bundle32_read Elf32.elf32_read
+unfolding Names.dwo_words Names.index_words Names.name_prefix Names.name_suffix Names.dwo_name Names.index_name Names.section_names Checked.◌>>=◌ Checked.require Lists.same Octets.part Octets.little Octets.big_from Octets.number Octets.number_at Octets.little_of Octets.big_of Octets.bytes_of Octets.numbers_of Octets.zeros Bundle.filled_up InitialLength.marked InitialLength.length_field InitialLength.length_stated BundleWritten.word_bytes BundleWritten.head_bytes BundleWritten.section_bytes BundleWritten.object_bytes BundleWritten.end_bytes BundleWritten.written UnitRead.length_good UnitRead.unit_size UnitRead.is_five UnitRead.address_place UnitRead.common_size UnitRead.behind_common UnitRead.identity_five UnitRead.identity_of UnitRead.unit_by UnitRead.unit_of UnitRead.not_eleven UnitRead.header_passes ElfFile.header_at ElfFile.headers_at ElfFile.unstored ElfFile.body_of ElfFile.inside ElfFile.with_names ElfFile.from_type ElfFile.file_of ElfFile.starts_with ElfFile.code_among ElfFile.code_of ElfFile.is_wanted ElfFile.ended ElfFile.wanted_of ElfFile.sections_inside ElfFile.elf_of ElfReader.compressed ElfReader.relocates ElfReader.readable ElfReader.first_info ElfReader.width_stated ElfReader.version_stated ElfReader.encoding_stated ElfReader.unit_stated ElfReader.object_word ElfReader.sections_read ElfReader.bundle_of_word ElfReader.bundle_from ElfReader.bundle_read ElfReader.elf_read Elf32.header32_at Elf32.headers32_at Elf32.with_names32 Elf32.from_type32 Elf32.file32_of Elf32.elf32_of Elf32.bundle32_read Elf32.elf32_read
 small_read = refl
 
 pub small_file_small : all (λ b. ltb b 256) small_file ≡ true
-unfolding Names.dwo_words Names.index_words Names.name_prefix Names.name_suffix Names.dwo_name Names.index_name Names.section_names Checked.◌>>=◌ Checked.require Lists.same Octets.part Octets.little Octets.big_from Octets.number Octets.number_at Octets.little_of Octets.big_of Octets.bytes_of Octets.numbers_of Octets.zeros Bundle.filled_up InitialLength.marked InitialLength.length_field InitialLength.length_stated BundleWritten.word_bytes BundleWritten.head_bytes BundleWritten.section_bytes BundleWritten.object_bytes BundleWritten.end_bytes BundleWritten.written UnitRead.length_good UnitRead.unit_size UnitRead.is_five UnitRead.address_place UnitRead.common_size UnitRead.behind_common UnitRead.identity_five UnitRead.identity_of UnitRead.unit_by UnitRead.unit_of UnitRead.not_eleven UnitRead.header_passes ElfFile.header_at ElfFile.headers_at ElfFile.unstored ElfFile.body_of ElfFile.inside ElfFile.file_of ElfFile.starts_with ElfFile.code_among ElfFile.code_of ElfFile.is_wanted ElfFile.ended ElfFile.wanted_of ElfFile.sections_inside ElfFile.elf_of ElfReader.compressed ElfReader.relocates ElfReader.readable ElfReader.first_info ElfReader.width_stated ElfReader.version_stated ElfReader.encoding_stated ElfReader.unit_stated ElfReader.object_word ElfReader.sections_read ElfReader.bundle_of_word ElfReader.bundle_from ElfReader.bundle_read ElfReader.elf_read Elf32.header32_at Elf32.headers32_at Elf32.file32_of Elf32.elf32_of Elf32.bundle32_read Elf32.elf32_read
+unfolding Names.dwo_words Names.index_words Names.name_prefix Names.name_suffix Names.dwo_name Names.index_name Names.section_names Checked.◌>>=◌ Checked.require Lists.same Octets.part Octets.little Octets.big_from Octets.number Octets.number_at Octets.little_of Octets.big_of Octets.bytes_of Octets.numbers_of Octets.zeros Bundle.filled_up InitialLength.marked InitialLength.length_field InitialLength.length_stated BundleWritten.word_bytes BundleWritten.head_bytes BundleWritten.section_bytes BundleWritten.object_bytes BundleWritten.end_bytes BundleWritten.written UnitRead.length_good UnitRead.unit_size UnitRead.is_five UnitRead.address_place UnitRead.common_size UnitRead.behind_common UnitRead.identity_five UnitRead.identity_of UnitRead.unit_by UnitRead.unit_of UnitRead.not_eleven UnitRead.header_passes ElfFile.header_at ElfFile.headers_at ElfFile.unstored ElfFile.body_of ElfFile.inside ElfFile.with_names ElfFile.from_type ElfFile.file_of ElfFile.starts_with ElfFile.code_among ElfFile.code_of ElfFile.is_wanted ElfFile.ended ElfFile.wanted_of ElfFile.sections_inside ElfFile.elf_of ElfReader.compressed ElfReader.relocates ElfReader.readable ElfReader.first_info ElfReader.width_stated ElfReader.version_stated ElfReader.encoding_stated ElfReader.unit_stated ElfReader.object_word ElfReader.sections_read ElfReader.bundle_of_word ElfReader.bundle_from ElfReader.bundle_read ElfReader.elf_read Elf32.header32_at Elf32.headers32_at Elf32.with_names32 Elf32.from_type32 Elf32.file32_of Elf32.elf32_of Elf32.bundle32_read Elf32.elf32_read
 small_file_small = refl

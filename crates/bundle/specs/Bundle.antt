@@ -7,6 +7,40 @@ use Rattle.octets.specs.Octets.{part, number_at}
 use Rattle.octets.specs.Lists.{all, those}
 use Rattle.octets.specs.Checked.{◌>>=◌, require}
 
+-- ---- the numbers of words
+-- a word's kind is a multiple of it
+abbrev pub kinds : ℕ
+kinds = 0x1000_0000
+
+abbrev pub object_kind : ℕ
+object_kind = 1
+
+abbrev pub section_kind : ℕ
+section_kind = 2
+
+abbrev pub end_kind : ℕ
+end_kind = 3
+
+-- the head words of bundles whose data is little-endian and big-endian
+abbrev pub little_head : ℕ
+little_head = 0xF000_0000
+
+abbrev pub big_head : ℕ
+big_head = 0xF000_0001
+
+-- the rest of an object's word, its encoding, is below it
+abbrev pub encodings : ℕ
+encodings = 0x100_0000
+
+-- in the rest of a section's word the code is a multiple of it, and the length is below it
+abbrev pub lengths : ℕ
+lengths = 0x80_0000
+
+-- the bytes of a head and an end: no bundle is shorter
+abbrev pub least_bundle : ℕ
+least_bundle = 8
+
+-- ---- words and items
 -- where a section's bytes lie in the bundle
 pub record Part : Type 0 where
   pub code : ℕ
@@ -28,35 +62,35 @@ pub data Step : Type 0 where
 unfoldable pub filled_up : ℕ → ℕ
 filled_up n = (n + 3) / 4 * 4
 
--- kind 1: the rest is the encoding; bits 24 to 27 are zero
+-- an object: the rest is the encoding; bits 24 to 27 are zero
 unfoldable pub object_step : ℕ → Step
-object_step rest = if nat_lt rest 0x100_0000 then more (object (0x1000_0000 + rest)) 0 else broken
+object_step rest = if nat_lt rest encodings then more (object (object_kind * kinds + rest)) 0 else broken
 
--- kind 2: code and length; the bytes follow, filled up to a whole word with zeros
+-- a section: code and length; the bytes follow, filled up to a whole word with zeros
 unfoldable pub section_step : ℕ → List ℕ → ℕ → ℕ → Step
 section_step at s code size =
     if nat_le info_code code && nat_le code tu_index_code && nat_le (4 + filled_up size) (length s) && all (nat_eq 0) (part s (4 + size) (filled_up size - size))
     then more (section (record { code = code; start = at + 4; size = size })) (filled_up size)
     else broken
 
--- kind 3: the last word, and the rest is the bundle's number of words
+-- the end: the last word, and the rest is the bundle's number of words
 unfoldable pub end_step : ℕ → List ℕ → ℕ → Step
 end_step at s rest = if length s == 4 && 4 * rest == at + 4 then end else broken
 
 unfoldable pub step_of : ℕ → List ℕ → ℕ → ℕ → Step
 step_of at s kind rest =
-    if kind == 1
+    if kind == object_kind
     then object_step rest
-    else if kind == 2
-    then section_step at s (rest / 0x80_0000) (rest % 0x80_0000)
-    else if kind == 3 then end_step at s rest else broken
+    else if kind == section_kind
+    then section_step at s (rest / lengths) (rest % lengths)
+    else if kind == end_kind then end_step at s rest else broken
 
 -- s is the bundle from a place on
 unfoldable pub step_at : ℕ → List ℕ → Step
 step_at at s =
     if nat_lt (length s) 4
     then broken
-    else step_of at s (number_at false 4 s 0 / 0x1000_0000) (number_at false 4 s 0 % 0x1000_0000)
+    else step_of at s (number_at false 4 s 0 / kinds) (number_at false 4 s 0 % kinds)
 
 unfoldable pub followed : Step → (ℕ → Result (List Item) ℕ) → Result (List Item) ℕ
 followed (more i n) rest = do
@@ -103,14 +137,14 @@ pub record Bundle : Type 0 where
 unfoldable pub bundle_of : List ℕ → Result Bundle ℕ
 bundle_of b = do
   let head = number_at false 4 b 0
-  _ ← require (head == 0xF000_0000 || head == 0xF000_0001) bad_words
+  _ ← require (head == little_head || head == big_head) bad_words
   is ← items 4 (drop 4 b)
   _ ← require (object_first is) bad_words
-  Ok (record { big = head == 0xF000_0001; objects = objects_of is })
+  Ok (record { big = head == big_head; objects = objects_of is })
 
 -- 1 and 21: the length is 8 or more, within the limit and a multiple of 4
 unfoldable pub length_good : ℕ → List ℕ → Bool
-length_good limit b = nat_le 8 (length b) && nat_le (length b) limit && length b % 4 == 0
+length_good limit b = nat_le least_bundle (length b) && nat_le (length b) limit && length b % 4 == 0
 
 -- ---- the sections of one object
 -- those of a code

@@ -2,7 +2,7 @@
 use Rattle.std.specs.Prelude.{Bool, true, false, List, ◌++◌, map, ℕ, ◌+◌, ◌*◌, ◌-◌, ◌/◌, length}
 use Rattle.octets.specs.Octets.{bytes_of, zeros}
 use Rattle.octets.specs.Lists.{joined}
-use Rattle.bundle.specs.Bundle.{filled_up}
+use Rattle.bundle.specs.Bundle.{kinds, section_kind, end_kind, little_head, big_head, lengths, filled_up}
 
 pub record Section : Type 0 where
   pub code : ℕ
@@ -17,21 +17,21 @@ unfoldable pub word_bytes : ℕ → List ℕ
 word_bytes w = bytes_of false 4 w
 
 unfoldable pub head_bytes : Bool → List ℕ
-head_bytes true = word_bytes 0xF000_0001
-head_bytes false = word_bytes 0xF000_0000
+head_bytes true = word_bytes big_head
+head_bytes false = word_bytes little_head
 
 -- the section word, the bytes, and zeros up to a whole word
 unfoldable pub section_bytes : Section → List ℕ
 section_bytes s =
     let n = length s.bytes in
-    word_bytes (0x2000_0000 + s.code * 0x80_0000 + n) ++ s.bytes ++ zeros (filled_up n - n)
+    word_bytes (section_kind * kinds + s.code * lengths + n) ++ s.bytes ++ zeros (filled_up n - n)
 
 unfoldable pub object_bytes : Sections → List ℕ
 object_bytes o = word_bytes o.word ++ joined (map section_bytes o.sections)
 
 -- n bytes stand before the end word, which counts itself
 unfoldable pub end_bytes : ℕ → List ℕ
-end_bytes n = word_bytes (0x3000_0000 + (n + 4) / 4)
+end_bytes n = word_bytes (end_kind * kinds + (n + 4) / 4)
 
 unfoldable pub written : Bool → List Sections → List ℕ
 written big os =

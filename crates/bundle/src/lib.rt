@@ -11,6 +11,9 @@ ghost use Rattle.octets.specs.Options.{found};
 ghost use Rattle.numbers.specs.Refused.{told};
 ghost use Rattle.bundle.specs.Written.{word_bytes, head_bytes, end_bytes};
 ghost use Rattle.bundle.specs.Bundle.{
+  kinds,
+  section_kind,
+  lengths,
   bundle_of,
   filled_up,
   object_step,
@@ -104,7 +107,7 @@ pub fn length_good(limit: usize, b: &[u8]) -> bool
 // A length filled up to whole words.
 #[tactic(auto, unfolding(crate::specs::Bundle::filled_up))]
 pub fn filled_up(n: usize) -> usize
-    requires { n < 0x80_0000 }
+    requires { n < lengths }
     ensures { result ≡ filled_up n }
 {
     (n + 3) / 4 * 4
@@ -113,7 +116,7 @@ pub fn filled_up(n: usize) -> usize
 // The item that a word of kind 1 starts. The caller has seen that the word lies in the bundle.
 #[tactic(auto, unfolding(crate::specs::Bundle::object_step, crate::specs::Next::next_of))]
 fn object_item(at: usize, rest: u32) -> Result<Item, Refusal>
-    requires { (at + 4 < 0x1_0000_0000_0000_0000) × (rest < 0x1000_0000) }
+    requires { (at + 4 < 0x1_0000_0000_0000_0000) × (rest < kinds) }
     ensures { told result ≡ next_of at (object_step rest) }
 {
     if ENCODINGS <= rest {
@@ -128,7 +131,7 @@ fn object_item(at: usize, rest: u32) -> Result<Item, Refusal>
 // The item that a word of kind 2 starts. The caller has seen that the word lies in the bundle.
 #[tactic(auto, unfolding(crate::specs::Bundle::section_step, crate::specs::Bundle::filled_up, crate::specs::Next::next_of))]
 fn section_item(b: &[u8], at: usize, code: u32, size: usize) -> Result<Item, Refusal>
-    requires { (at + 4 ≤ length b.now) × (size < 0x80_0000) }
+    requires { (at + 4 ≤ length b.now) × (size < lengths) }
     ensures { told result ≡ next_of at (section_step at (drop at b.now) code size) }
 {
     let filled = filled_up(size);
@@ -151,7 +154,7 @@ fn section_item(b: &[u8], at: usize, code: u32, size: usize) -> Result<Item, Ref
 // What a word of kind 3 ends. The caller has seen that the word lies in the bundle.
 #[tactic(auto, unfolding(crate::specs::Bundle::end_step, crate::specs::Next::next_of))]
 fn end_item(b: &[u8], at: usize, rest: usize) -> Result<Item, Refusal>
-    requires { (at + 4 ≤ length b.now) × (rest < 0x1000_0000) }
+    requires { (at + 4 ≤ length b.now) × (rest < kinds) }
     ensures { told result ≡ next_of at (end_step at (drop at b.now) rest) }
 {
     if b.len() - at != 4 || 4 * rest != at + 4 {
@@ -337,8 +340,8 @@ pub fn put_object(word: u32, d: &mut [u8], at: usize)
 // The word of a section whose bytes the caller stores behind it.
 #[tactic(auto, unfolding(crate::specs::Written::word_bytes))]
 pub fn put_section_word(code: u32, size: usize, d: &mut [u8], at: usize)
-    requires { (code < 32) × (size < 0x80_0000) × (at + 4 ≤ length d.old) }
-    ensures { d.new ≡ placed d.old at (word_bytes (0x2000_0000 + code * 0x80_0000 + size)) }
+    requires { (code < 32) × (size < lengths) × (at + 4 ≤ length d.old) }
+    ensures { d.new ≡ placed d.old at (word_bytes (section_kind * kinds + code * lengths + size)) }
 {
     octets::put_word(SECTION * KIND + code * LENGTHS + size as u32, d, at);
 }
@@ -346,9 +349,9 @@ pub fn put_section_word(code: u32, size: usize, d: &mut [u8], at: usize)
 // A section of these bytes; the zeros that fill up its last word stand there. Returns the place behind it.
 #[tactic(auto, using(crate::proofs::Putting::placed_behind, crate::proofs::Next::filled_up_le))]
 pub fn put_section(code: u32, s: &[u8], d: &mut [u8], at: usize) -> usize
-    requires { (code < 32) × (length s.now < 0x80_0000) × (at + 4 + filled_up (length s.now) ≤ length d.old) }
+    requires { (code < 32) × (length s.now < lengths) × (at + 4 + filled_up (length s.now) ≤ length d.old) }
     ensures next { result ≡ at + 4 + filled_up (length s.now) }
-    ensures output { d.new ≡ placed d.old at (word_bytes (0x2000_0000 + code * 0x80_0000 + length s.now) ++ s.now) }
+    ensures output { d.new ≡ placed d.old at (word_bytes (section_kind * kinds + code * lengths + length s.now) ++ s.now) }
 {
     put_section_word(code, s.len(), d, at);
     octets::put_bytes(d, at + 4, s);

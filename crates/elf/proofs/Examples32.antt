@@ -109,5 +109,5 @@ Examples =
     × (bundle32_read [] ≡ Err 31)
 
 pub examples : Examples
-unfolding Names.dwo_words Names.index_words Names.name_prefix Names.name_suffix Names.dwo_name Names.index_name Names.section_names Checked.◌>>=◌ Checked.require Lists.same Octets.part Octets.little Octets.big_from Octets.number Octets.number_at Octets.little_of Octets.big_of Octets.bytes_of Octets.numbers_of Octets.zeros Answers.answered Bundle.filled_up InitialLength.marked InitialLength.length_field InitialLength.length_stated Written.word_bytes Written.head_bytes Written.section_bytes Written.object_bytes Written.end_bytes Written.written UnitRead.length_good UnitRead.unit_size UnitRead.is_five UnitRead.address_place UnitRead.common_size UnitRead.behind_common UnitRead.identity_five UnitRead.identity_of UnitRead.unit_by UnitRead.unit_of UnitRead.not_eleven UnitRead.header_passes File.header_at File.headers_at File.unstored File.body_of File.inside File.file_of File.starts_with File.code_among File.code_of File.is_wanted File.ended File.wanted_of File.sections_inside File.elf_of Reader.compressed Reader.relocates Reader.readable Reader.first_info Reader.width_stated Reader.version_stated Reader.encoding_stated Reader.unit_stated Reader.object_word Reader.sections_read Reader.bundle_of_word Reader.bundle_from Reader.bundle_read Reader.elf_read Elf32.header32_at Elf32.headers32_at Elf32.file32_of Elf32.elf32_of Elf32.bundle32_read Elf32.elf32_read
+unfolding Names.dwo_words Names.index_words Names.name_prefix Names.name_suffix Names.dwo_name Names.index_name Names.section_names Checked.◌>>=◌ Checked.require Lists.same Octets.part Octets.little Octets.big_from Octets.number Octets.number_at Octets.little_of Octets.big_of Octets.bytes_of Octets.numbers_of Octets.zeros Answers.answered Bundle.filled_up InitialLength.marked InitialLength.length_field InitialLength.length_stated Written.word_bytes Written.head_bytes Written.section_bytes Written.object_bytes Written.end_bytes Written.written UnitRead.length_good UnitRead.unit_size UnitRead.is_five UnitRead.address_place UnitRead.common_size UnitRead.behind_common UnitRead.identity_five UnitRead.identity_of UnitRead.unit_by UnitRead.unit_of UnitRead.not_eleven UnitRead.header_passes File.header_at File.headers_at File.unstored File.body_of File.inside File.with_names File.from_type File.file_of File.starts_with File.code_among File.code_of File.is_wanted File.ended File.wanted_of File.sections_inside File.elf_of Reader.compressed Reader.relocates Reader.readable Reader.first_info Reader.width_stated Reader.version_stated Reader.encoding_stated Reader.unit_stated Reader.object_word Reader.sections_read Reader.bundle_of_word Reader.bundle_from Reader.bundle_read Reader.elf_read Elf32.header32_at Elf32.headers32_at Elf32.with_names32 Elf32.from_type32 Elf32.file32_of Elf32.elf32_of Elf32.bundle32_read Elf32.elf32_read
 examples = (refl, refl, refl, refl, refl, refl, refl, refl, refl, refl, refl, refl, refl, refl, refl, refl, refl, refl, refl, refl, refl, refl, refl, refl, refl, refl, refl, refl, refl)

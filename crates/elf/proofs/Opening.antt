@@ -6,8 +6,7 @@ use Rattle.octets.specs.Lists.{same}
 use Rattle.std.specs.Prelude.{Ok, Err}
 use Rattle.octets.proofs.Checks.{passes, fails, and_left, and_right, and_fails, known}
 use Rattle.numbers.specs.Refusals.{not_elf}
-use Rattle.elf.specs.File.{Header, header_at, headers_at, body_of, inside, file_of}
-use Rattle.elf.specs.Held.{with_names, from_type}
+use Rattle.elf.specs.File.{Header, header_at, headers_at, body_of, inside, file_of, with_names, from_type}
 
 module _ (f : List ℕ) where
   -- the bytes that start the file

@@ -7,8 +7,7 @@ use Rattle.std.specs.Prelude.{Ok, Err}
 use Rattle.octets.proofs.Checks.{passes, fails, and_left, and_right, and_fails, known}
 use Rattle.numbers.specs.Refusals.{not_elf}
 use Rattle.elf.specs.File.{Header, body_of, inside}
-use Rattle.elf.specs.Elf32.{header32_at, headers32_at, file32_of}
-use Rattle.elf.specs.Held.{with_names32, from_type32}
+use Rattle.elf.specs.Elf32.{header32_at, headers32_at, file32_of, with_names32, from_type32}
 
 module _ (f : List ℕ) where
   -- the bytes that start the file

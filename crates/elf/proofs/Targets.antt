@@ -5,8 +5,8 @@ use Rattle.octets.specs.Lists.{all, any}
 use Rattle.octets.proofs.Checks.{known, true_false, and_both, and_left, and_right, both_ways}
 use Rattle.octets.proofs.Elements.{all_at, at_all, at_any, none_at}
 use Rattle.elf.specs.File.{Header, File, unstored, no_header, is_wanted, wanted_of}
-use Rattle.elf.specs.Reader.{compressed, relocates, readable}
-use Rattle.elf.specs.Held.{is_relocation, target_wanted, relocates_wanted, header_readable}
+use Rattle.elf.specs.Reader.{compressed, relocates, readable, is_relocation}
+use Rattle.elf.specs.Held.{target_wanted, relocates_wanted, header_readable}
 use Rattle.elf.proofs.Judged.{all_of_those}
 
 -- ---- 32 of one header

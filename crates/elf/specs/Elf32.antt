@@ -5,8 +5,15 @@ use Rattle.octets.specs.Lists.{same}
 use Rattle.octets.specs.Checked.{◌>>=◌, require}
 use Rattle.answers.specs.Answers.{Answer, answered}
 use Rattle.numbers.specs.Refusals.{not_elf}
-use Rattle.elf.specs.File.{Header, File, body_of, inside, sections_inside}
+use Rattle.elf.specs.File.{magic, class_32, little_endian, big_endian, relocatable, Header, File, body_of, inside, sections_inside}
 use Rattle.elf.specs.Reader.{bundle_from}
+
+-- the bytes of the file's own header, and of a section header
+abbrev pub file_header32_size : ℕ
+file_header32_size = 52
+
+abbrev pub section_header32_size : ℕ
+section_header32_size = 40
 
 -- header number i, which stands at a place of the file
 unfoldable pub header32_at : Bool → List ℕ → ℕ → ℕ → Header
@@ -21,28 +28,36 @@ header32_at big f i at =
       info = number_at big 4 f (at + 28);
     }
 
--- n headers, of 40 bytes each, from header number i on
+-- n headers from header number i on
 unfoldable pub headers32_at : Bool → List ℕ → ℕ → ℕ → ℕ → List Header
 headers32_at big f i at zero = []
-headers32_at big f i at (suc n) = header32_at big f i at ∷ headers32_at big f (i + 1) (at + 40) n
+headers32_at big f i at (suc n) = header32_at big f i at ∷ headers32_at big f (i + 1) (at + section_header32_size) n
 
--- an ELF32 file of type 1, with its headers and its name table inside; its own header has 52 bytes
-unfoldable pub file32_of : List ℕ → Result File ℕ
-file32_of f = do
-  _ ← require (nat_le 52 (length f)) not_elf
-  _ ← require (same (take 5 f) (0x7F ∷ 0x45 ∷ 0x4C ∷ 0x46 ∷ 1 ∷ [])) not_elf
-  _ ← require (slice_index f 5 == 1 || slice_index f 5 == 2) not_elf
-  let big = slice_index f 5 == 2
-  _ ← require (number_at big 2 f 16 == 1) not_elf
-  let at = number_at big 4 f 32
-  _ ← require (number_at big 2 f 46 == 40) not_elf
-  let n = number_at big 2 f 48
-  _ ← require (nat_le (at + 40 * n) (length f)) not_elf
-  let table = number_at big 2 f 50
-  _ ← require (nat_lt table n) not_elf
-  let t = header32_at big f table (at + 40 * table)
+-- n headers, and the name table that t is the header of, which is inside
+unfoldable pub with_names32 : List ℕ → Bool → ℕ → ℕ → Header → Result File ℕ
+with_names32 f big at n t = do
   _ ← require (inside f t) not_elf
   Ok (record { big = big; headers = headers32_at big f 0 at n; names = body_of f t })
+
+-- from the type on
+unfoldable pub from_type32 : List ℕ → Bool → Result File ℕ
+from_type32 f big = do
+  _ ← require (number_at big 2 f 16 == relocatable) not_elf
+  let at = number_at big 4 f 32
+  _ ← require (number_at big 2 f 46 == section_header32_size) not_elf
+  let n = number_at big 2 f 48
+  _ ← require (nat_le (at + section_header32_size * n) (length f)) not_elf
+  let table = number_at big 2 f 50
+  _ ← require (nat_lt table n) not_elf
+  with_names32 f big at n (header32_at big f table (at + section_header32_size * table))
+
+-- an ELF32 file, with its headers and its name table inside
+unfoldable pub file32_of : List ℕ → Result File ℕ
+file32_of f = do
+  _ ← require (nat_le file_header32_size (length f)) not_elf
+  _ ← require (same (take 5 f) (magic (class_32 ∷ []))) not_elf
+  _ ← require (slice_index f 5 == little_endian || slice_index f 5 == big_endian) not_elf
+  from_type32 f (slice_index f 5 == big_endian)
 
 -- 31: all of it
 unfoldable pub elf32_of : List ℕ → Result File ℕ

@@ -6,6 +6,46 @@ use Rattle.octets.specs.Checked.{◌>>=◌, require}
 use Rattle.numbers.specs.Names.{section_names}
 use Rattle.numbers.specs.Refusals.{not_elf}
 
+-- ---- the numbers that a file has
+-- 7F and "ELF" start it, and its class follows: 1 is 32 bits, 2 is 64
+abbrev pub magic : List ℕ → List ℕ
+magic behind = 0x7F ∷ 0x45 ∷ 0x4C ∷ 0x46 ∷ behind
+
+abbrev pub class_32 : ℕ
+class_32 = 1
+
+abbrev pub class_64 : ℕ
+class_64 = 2
+
+-- its byte order
+abbrev pub little_endian : ℕ
+little_endian = 1
+
+abbrev pub big_endian : ℕ
+big_endian = 2
+
+-- its type: what a compiler makes, and the linker takes
+abbrev pub relocatable : ℕ
+relocatable = 1
+
+-- the bytes of its own header, and of a section header
+abbrev pub file_header_size : ℕ
+file_header_size = 64
+
+abbrev pub section_header_size : ℕ
+section_header_size = 64
+
+-- the types of sections without bytes in the file, and of relocations
+abbrev pub no_bits : ℕ
+no_bits = 8
+
+abbrev pub relocations_adding : ℕ
+relocations_adding = 4
+
+abbrev pub relocations : ℕ
+relocations = 9
+
+-- ---- its headers
 -- a section header: its number, its name's place in the name table, its type and flags, where its bytes lie, and the number of a relocation section's target
 pub record Header : Type 0 where
   pub number : ℕ
@@ -29,14 +69,13 @@ header_at big f i at =
       info = number_at big 4 f (at + 44);
     }
 
--- n headers, of 64 bytes each, from header number i on
+-- n headers from header number i on
 unfoldable pub headers_at : Bool → List ℕ → ℕ → ℕ → ℕ → List Header
 headers_at big f i at zero = []
-headers_at big f i at (suc n) = header_at big f i at ∷ headers_at big f (i + 1) (at + 64) n
+headers_at big f i at (suc n) = header_at big f i at ∷ headers_at big f (i + 1) (at + section_header_size) n
 
--- type 8 has no bytes
 unfoldable pub unstored : Header → Bool
-unstored h = h.type == 8
+unstored h = h.type == no_bits
 
 unfoldable pub body_of : List ℕ → Header → List ℕ
 body_of f h = if unstored h then [] else part f h.offset h.size
@@ -55,24 +94,31 @@ pub record File : Type 0 where
 unfoldable pub no_header : Header
 no_header = record { number = 0; name = 0; type = 0; flags = 0; offset = 0; size = 0; info = 0 }
 
--- an ELF64 file of type 1, with its headers and its name table inside. The name table's number is below the count of headers, so neither is in
--- extended numbering: there the count is 0, or the number FFFF hexadecimal
-unfoldable pub file_of : List ℕ → Result File ℕ
-file_of f = do
-  _ ← require (nat_le 64 (length f)) not_elf
-  _ ← require (same (take 5 f) (0x7F ∷ 0x45 ∷ 0x4C ∷ 0x46 ∷ 2 ∷ [])) not_elf
-  _ ← require (slice_index f 5 == 1 || slice_index f 5 == 2) not_elf
-  let big = slice_index f 5 == 2
-  _ ← require (number_at big 2 f 16 == 1) not_elf
-  let at = number_at big 8 f 40
-  _ ← require (number_at big 2 f 58 == 64) not_elf
-  let n = number_at big 2 f 60
-  _ ← require (nat_le (at + 64 * n) (length f)) not_elf
-  let table = number_at big 2 f 62
-  _ ← require (nat_lt table n) not_elf
-  let t = header_at big f table (at + 64 * table)
+-- n headers, and the name table that t is the header of, which is inside
+unfoldable pub with_names : List ℕ → Bool → ℕ → ℕ → Header → Result File ℕ
+with_names f big at n t = do
   _ ← require (inside f t) not_elf
   Ok (record { big = big; headers = headers_at big f 0 at n; names = body_of f t })
+
+-- from the type on. The name table's number is below the count of headers, so neither is in extended numbering: there the count is 0, or the number FFFF hexadecimal
+unfoldable pub from_type : List ℕ → Bool → Result File ℕ
+from_type f big = do
+  _ ← require (number_at big 2 f 16 == relocatable) not_elf
+  let at = number_at big 8 f 40
+  _ ← require (number_at big 2 f 58 == section_header_size) not_elf
+  let n = number_at big 2 f 60
+  _ ← require (nat_le (at + section_header_size * n) (length f)) not_elf
+  let table = number_at big 2 f 62
+  _ ← require (nat_lt table n) not_elf
+  with_names f big at n (header_at big f table (at + section_header_size * table))
+
+-- an ELF64 file, with its headers and its name table inside
+unfoldable pub file_of : List ℕ → Result File ℕ
+file_of f = do
+  _ ← require (nat_le file_header_size (length f)) not_elf
+  _ ← require (same (take 5 f) (magic (class_64 ∷ []))) not_elf
+  _ ← require (slice_index f 5 == little_endian || slice_index f 5 == big_endian) not_elf
+  from_type f (slice_index f 5 == big_endian)
 
 -- ---- names
 -- s starts with this name and the zero that ends it

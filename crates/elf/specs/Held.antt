@@ -7,12 +7,11 @@ use Rattle.bundle.specs.Encoding.{Encoding}
 use Rattle.bundle.specs.Bundle.{filled_up}
 use Rattle.bundle.specs.Written.{Section, section_bytes, written}
 use Rattle.unit.specs.Headers.{with_address}
-use Rattle.numbers.specs.Refusals.{not_elf, no_unit, section_too_long}
+use Rattle.numbers.specs.Refusals.{no_unit, section_too_long}
 use Rattle.numbers.specs.Limits.{section_limit, package_limit}
-use Rattle.elf.specs.File.{Header, header_at, headers_at, unstored, body_of, inside, File, no_header, code_of, is_wanted, ended, wanted_of}
-use Rattle.elf.specs.Elf32.{header32_at, headers32_at}
+use Rattle.elf.specs.File.{Header, unstored, body_of, inside, File, no_header, code_of, is_wanted, ended, wanted_of}
 use Rattle.elf.specs.Classes.{headers_of_class}
-use Rattle.elf.specs.Reader.{compressed, object_word}
+use Rattle.elf.specs.Reader.{is_relocation, compressed, object_word}
 use Rattle.elf.specs.declared.file.Header as code
 use Rattle.elf.specs.declared.file.ElfFile.{ElfFile}
 use Rattle.elf.specs.declared.accepted.Section as found
@@ -29,48 +28,9 @@ file_is e = record { big = e.big; headers = headers_of_class e.class e.big e.byt
 abbrev pub WantedInside : ElfFile → Type 0
 WantedInside e = all (inside e.bytes.now) (wanted_of (file_is e)) ≡ true
 
--- `file_of` from the name table's header on
-unfoldable pub with_names : List ℕ → Bool → ℕ → ℕ → Header → Result File ℕ
-with_names f big at n t = do
-  _ ← require (inside f t) not_elf
-  Ok (record { big = big; headers = headers_at big f 0 at n; names = body_of f t })
-
--- `file_of` from the type on
-unfoldable pub from_type : List ℕ → Bool → Result File ℕ
-from_type f big = do
-  _ ← require (number_at big 2 f 16 == 1) not_elf
-  let at = number_at big 8 f 40
-  _ ← require (number_at big 2 f 58 == 64) not_elf
-  let n = number_at big 2 f 60
-  _ ← require (nat_le (at + 64 * n) (length f)) not_elf
-  let table = number_at big 2 f 62
-  _ ← require (nat_lt table n) not_elf
-  with_names f big at n (header_at big f table (at + 64 * table))
-
--- `file32_of` from the name table's header on
-unfoldable pub with_names32 : List ℕ → Bool → ℕ → ℕ → Header → Result File ℕ
-with_names32 f big at n t = do
-  _ ← require (inside f t) not_elf
-  Ok (record { big = big; headers = headers32_at big f 0 at n; names = body_of f t })
-
--- `file32_of` from the type on
-unfoldable pub from_type32 : List ℕ → Bool → Result File ℕ
-from_type32 f big = do
-  _ ← require (number_at big 2 f 16 == 1) not_elf
-  let at = number_at big 4 f 32
-  _ ← require (number_at big 2 f 46 == 40) not_elf
-  let n = number_at big 2 f 48
-  _ ← require (nat_le (at + 40 * n) (length f)) not_elf
-  let table = number_at big 2 f 50
-  _ ← require (nat_lt table n) not_elf
-  with_names32 f big at n (header32_at big f table (at + 40 * table))
-
 -- ---- one header judged
 abbrev pub header_good : List ℕ → List ℕ → Header → Bool
 header_good f names h = ended names h && (not (is_wanted names h) || inside f h)
-
-abbrev pub is_relocation : Header → Bool
-is_relocation h = h.type == 4 || h.type == 9
 
 abbrev pub target_wanted : File → ℕ → Bool
 target_wanted e i = nat_lt i (length e.headers) && is_wanted e.names (slice_index_or e.headers i no_header)

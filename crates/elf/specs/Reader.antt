@@ -5,6 +5,7 @@ use Rattle.octets.specs.Lists.{all, any}
 use Rattle.octets.specs.Checked.{◌>>=◌, require}
 use Rattle.answers.specs.Answers.{Answer, answered}
 use Rattle.bundle.specs.Encoding.{Encoding}
+use Rattle.bundle.specs.Bundle.{kinds, object_kind}
 use Rattle.bundle.specs.Written.{Section, written}
 use Rattle.bundle.specs.InitialLength.{marked, length_field}
 use Rattle.unit.specs.UnitRead.{address_place, header_passes}
@@ -12,15 +13,18 @@ use Rattle.numbers.specs.Sections.{info_code}
 use Rattle.numbers.specs.Tables.{dwarf4, dwarf5}
 use Rattle.numbers.specs.Limits.{section_limit, package_limit}
 use Rattle.numbers.specs.Refusals.{unreadable_section, no_unit, section_too_long}
-use Rattle.elf.specs.File.{Header, unstored, body_of, File, code_of, wanted_of, elf_of}
+use Rattle.elf.specs.File.{relocations_adding, relocations, Header, unstored, body_of, File, code_of, wanted_of, elf_of}
 
 -- ---- 32: a wanted section is stored as it is, and nothing is added to it when the file is linked
 unfoldable pub compressed : Header → Bool
 compressed h = h.flags / 0x800 % 2 == 1
 
--- a relocation section, of type 4 or 9, names its target by number
+abbrev pub is_relocation : Header → Bool
+is_relocation h = h.type == relocations_adding || h.type == relocations
+
+-- a relocation section names its target by number
 unfoldable pub relocates : Header → Header → Bool
-relocates h r = (r.type == 4 || r.type == 9) && r.info == h.number
+relocates h r = is_relocation r && r.info == h.number
 
 unfoldable pub readable : List Header → Header → Bool
 readable hs h = not (compressed h) && not (unstored h) && not (any (relocates h) hs)
@@ -60,7 +64,7 @@ unit_stated big s = do
 
 -- ---- the bundle
 unfoldable pub object_word : Encoding → ℕ
-object_word e = 0x1000_0000 + e.version + 0x100 * e.width + 0x1_0000 * e.address
+object_word e = object_kind * kinds + e.version + 0x100 * e.width + 0x1_0000 * e.address
 
 -- the wanted sections, in the order of their headers
 unfoldable pub sections_read : List ℕ → File → List Section

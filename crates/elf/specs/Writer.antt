@@ -10,6 +10,7 @@ use Rattle.bundle.specs.Bundle.{Part, count, body}
 use Rattle.bundle.specs.Written.{Section}
 use Rattle.lookup.specs.Lookup.{package_of, codes}
 use Rattle.answers.specs.Answers.{Answer, refused, made}
+use Rattle.elf.specs.File.{magic, class_64, little_endian, big_endian, relocatable, file_header_size, section_header_size}
 
 -- ---- 36: the machines that a file is written for
 abbrev pub amd64 : ℕ
@@ -47,8 +48,9 @@ unfoldable pub name_table : List Section → List ℕ
 name_table ss = 0 ∷ (joined (map (λ s. ended_name (section_name s.code)) ss) ++ ended_name table_name)
 
 -- ---- section headers
+-- as many bytes as the file's own header has
 abbrev pub header_size : ℕ
-header_size = 64
+header_size = section_header_size
 
 -- sections have type 1, the name table type 3
 abbrev pub program_bits : ℕ
@@ -71,27 +73,26 @@ headers_from big table name at (s ∷ ss) =
 
 -- one of zeros comes first
 unfoldable pub headers : Bool → List Section → List ℕ
-headers big ss = zeros header_size ++ headers_from big (length (name_table ss)) 1 header_size ss
+headers big ss = zeros section_header_size ++ headers_from big (length (name_table ss)) 1 file_header_size ss
 
 -- ---- the ELF header
--- 1 is little-endian, 2 big-endian
 unfoldable pub order_code : Bool → ℕ
-order_code big = if big then 2 else 1
+order_code big = if big then big_endian else little_endian
 
--- class 2 is 64 bits; OS ABI and its version are zero
+-- version 1; OS ABI and its version are zero
 unfoldable pub identification : Bool → List ℕ
-identification big = 127 ∷ 69 ∷ 76 ∷ 70 ∷ 2 ∷ order_code big ∷ 1 ∷ zeros 9
+identification big = magic (class_64 ∷ order_code big ∷ 1 ∷ zeros 9)
 
--- type 1, machine, version 1; entry point and program headers' offset zero, section headers' offset; flags zero; this header's size, program headers' size and count zero,
+-- type, machine, version 1; entry point and program headers' offset zero, section headers' offset; flags zero; this header's size, program headers' size and count zero,
 -- a section header's size, their number, and the number of the last, the name table's
 unfoldable pub file_header : Bool → ℕ → ℕ → ℕ → List ℕ
 file_header big machine at n =
     identification big
-    ++ numbers_of big 2 (1 ∷ machine ∷ [])
+    ++ numbers_of big 2 (relocatable ∷ machine ∷ [])
     ++ bytes_of big 4 1
     ++ numbers_of big 8 (0 ∷ 0 ∷ at ∷ [])
     ++ bytes_of big 4 0
-    ++ numbers_of big 2 (64 ∷ 0 ∷ 0 ∷ header_size ∷ n ∷ (n - 1) ∷ [])
+    ++ numbers_of big 2 (file_header_size ∷ 0 ∷ 0 ∷ section_header_size ∷ n ∷ (n - 1) ∷ [])
 
 -- ---- the file
 -- up to a multiple of 8
@@ -101,7 +102,7 @@ aligned n = (n + 7) / 8 * 8
 unfoldable pub file_bytes : Bool → ℕ → List Section → List ℕ
 file_bytes big machine ss =
     let inside = bodies ss ++ name_table ss in
-    let end = header_size + length inside in
+    let end = file_header_size + length inside in
     file_header big machine (aligned end) (length ss + 2) ++ inside ++ zeros (aligned end - end) ++ headers big ss
 
 -- 21

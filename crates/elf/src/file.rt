@@ -1,6 +1,7 @@
 // An ELF64 or ELF32 file: its section headers and its name table, and where the bytes of a section lie.
 ghost use Rattle.std.specs.Prelude.{◌≡◌, true, false, ◌&&◌, ◌||◌, [], ◌∷◌, ◌+◌, ◌*◌, ◌≤◌, ◌<◌, length, take, MatchOption, IfOk, ◌==◌, slice_index, slice_index_or};
 ghost use Rattle.octets.specs.Lists.{same};
+ghost use Rattle.elf.specs.File.{magic, class_32, class_64, little_endian, big_endian};
 ghost use Rattle.elf.specs.Classes.{entry_of};
 
 use crate::class::Class;
@@ -106,7 +107,7 @@ impl Header {
 // The five bytes that start an ELF64 file, and one of the two byte orders.
 fn ident_good(f: &[u8]) -> bool
     requires { 64 ≤ length f.now }
-    ensures { result ≡ (same (take 5 f.now) (0x7F ∷ 0x45 ∷ 0x4C ∷ 0x46 ∷ 2 ∷ []) && (slice_index f.now 5 == 1 || slice_index f.now 5 == 2)) }
+    ensures { result ≡ (same (take 5 f.now) (magic (class_64 ∷ [])) && (slice_index f.now 5 == little_endian || slice_index f.now 5 == big_endian)) }
 {
     octets::same_bytes(&f[..5], b"\x7fELF\x02") && matches!(f[5], 1 | 2)
 }
@@ -114,7 +115,7 @@ fn ident_good(f: &[u8]) -> bool
 // The same of an ELF32 file.
 fn ident32_good(f: &[u8]) -> bool
     requires { 52 ≤ length f.now }
-    ensures { result ≡ (same (take 5 f.now) (0x7F ∷ 0x45 ∷ 0x4C ∷ 0x46 ∷ 1 ∷ []) && (slice_index f.now 5 == 1 || slice_index f.now 5 == 2)) }
+    ensures { result ≡ (same (take 5 f.now) (magic (class_32 ∷ [])) && (slice_index f.now 5 == little_endian || slice_index f.now 5 == big_endian)) }
 {
     octets::same_bytes(&f[..5], b"\x7fELF\x01") && matches!(f[5], 1 | 2)
 }
@@ -122,9 +123,9 @@ fn ident32_good(f: &[u8]) -> bool
 impl<'a> ElfFile<'a> {
     ghost use Rattle.octets.specs.Checked.{mapped};
     ghost use Rattle.numbers.specs.Refused.{told};
-    ghost use Rattle.elf.specs.File.{no_header, file_of};
-    ghost use Rattle.elf.specs.Held.{header_is, file_is, from_type, from_type32};
-    ghost use Rattle.elf.specs.Elf32.{file32_of};
+    ghost use Rattle.elf.specs.File.{no_header, from_type, file_of};
+    ghost use Rattle.elf.specs.Held.{header_is, file_is};
+    ghost use Rattle.elf.specs.Elf32.{from_type32, file32_of};
 
     // Refusal 31, but for names and wanted sections.
     #[tactic(auto, using(crate::proofs::Opening::open_short, crate::proofs::Opening::open_other, crate::proofs::Opening::open_type), unfolding(octets::specs::Checked::mapped))]

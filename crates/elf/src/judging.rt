@@ -2,12 +2,11 @@
 ghost use Rattle.std.specs.Prelude.{◌≡◌, ◌&&◌, ℕ, ◌<◌, drop, nat_eq, nat_lt, slice_index_or};
 ghost use Rattle.octets.specs.Lists.{all, any};
 ghost use Rattle.elf.specs.File.{no_header, ended, inside, wanted_of};
-ghost use Rattle.elf.specs.Reader.{readable};
+ghost use Rattle.elf.specs.Reader.{is_relocation, readable};
 ghost use Rattle.elf.specs.Held.{
   header_is,
   file_is,
   header_good,
-  is_relocation,
   target_wanted,
   relocates_wanted,
   header_readable,

@@ -4,7 +4,7 @@ use Rattle.numbers.specs.Sections.{info_code, types_code, str_offsets_code, str_
 use Rattle.octets.specs.Octets.{placed, padded, zeros}
 use Rattle.numbers.specs.Limits.{bundle_limit, work_for_word, section_limit}
 use Rattle.numbers.specs.Tables.{compilation_table, type_table}
-use Rattle.bundle.specs.Bundle.{Bundle, bundle_of}
+use Rattle.bundle.specs.Bundle.{kinds, section_kind, lengths, Bundle, bundle_of}
 use Rattle.bundle.specs.Encoded.{encoding_is}
 use Rattle.bundle.specs.Written.{word_bytes, written}
 use Rattle.bundle.specs.declared.encoding.ObjectEncoding.{ObjectEncoding}
@@ -145,7 +145,7 @@ SectionPut code p at d x = (s : ℕ → List ℕ) → ReadyFor p s → x ≡ pla
 unfoldable pub framed_in : List ℕ → ℕ → ℕ → List ℕ → List ℕ
 framed_in d at c x = if length x == 0
     then d
-    else placed d at (word_bytes (0x2000_0000 + c * 0x80_0000 + length x) ++ x)
+    else placed d at (word_bytes (section_kind * kinds + c * lengths + length x) ++ x)
 
 pub record FrameWritable (code size : ℕ) (p : Package) (n at : ℕ) : Type 0 where
   pub sections : ℕ → List ℕ

@@ -7,7 +7,7 @@ use Rattle.std.proofs.Math.Nat.{ℕ_set}
 use Rattle.std.specs.Prelude.{◌≡◌, Option, Some, None, Bool, true, false, not, ◌&&◌, List, ℕ, ◌+◌, ◌*◌, ◌^◌, length, ◌==◌, nat_le, nat_lt, if◌then◌else◌, Ok}
 use Rattle.octets.specs.Octets.{number_at}
 use Rattle.octets.specs.Checked.{mapped}
-use Rattle.index.specs.Index.{Index, version_of, columns_most, least_power, index_of, layout}
+use Rattle.index.specs.Index.{Index, version_of, columns_most, least_power, index_size, index_of, layout}
 use Rattle.index.specs.Probing.{Probe, found, absent}
 use Rattle.index.specs.declared.reading.IndexHead.{IndexHead}
 use Rattle.index.specs.declared.probing.Probed.{Probed}
@@ -47,7 +47,7 @@ version_named big s = if version_of big s == 0 then None else Some (version_of b
 unfoldable pub head_good : ℕ → IndexHead → Bool
 head_good n h =
     nat_le h.columns (columns_most h.version) && nat_lt h.units h.slots && least_power h.slots == h.slots
-    && n == 16 + 12 * h.slots + 4 * h.columns + 8 * (h.units * h.columns)
+    && n == index_size h.columns h.units h.slots
 
 -- all tests on the front
 unfoldable pub front_good : Bool → List ℕ → Bool
@@ -63,7 +63,7 @@ index_in big s h = layout big h.version h.columns h.units h.slots s
 
 -- the section has the length that the head states
 pub record Sized (s : List ℕ) (h : IndexHead) : Type 0 where
-  pub is : length s ≡ 16 + 12 * h.slots + 4 * h.columns + 8 * (h.units * h.columns)
+  pub is : length s ≡ index_size h.columns h.units h.slots
 
 -- the index is well formed: some bytes hold it
 pub record Well (i : Index) : Type 0 where

@@ -50,6 +50,10 @@ slots_good units [] rows = true
 slots_good units (x ∷ xs) [] = true
 slots_good units (x ∷ xs) (r ∷ rs) = if nat_le r units && zero_together r x then slots_good units xs rs else false
 
+-- the bytes of an index of c columns, u units and n slots
+abbrev pub index_size : ℕ → ℕ → ℕ → ℕ
+index_size c u n = 16 + 12 * n + 4 * c + 8 * (u * c)
+
 -- c columns, u units, n slots: behind 16 bytes the identities slot by slot, then the rows' numbers slot by slot, the codes of the columns, all offsets, all sizes
 unfoldable pub layout : Bool → ℕ → ℕ → ℕ → ℕ → List ℕ → Index
 layout big version c u n s =
@@ -73,7 +77,7 @@ index_of big s = do
   _ ← require (version == index2 || version == index5) bad_index
   _ ← require (nat_le c (columns_most version)) bad_index
   _ ← require (nat_lt u n && least_power n == n) bad_index
-  _ ← require (length s == 16 + 12 * n + 4 * c + 8 * (u * c)) bad_index
+  _ ← require (length s == index_size c u n) bad_index
   let i = layout big version c u n s
   _ ← require (all (code_good version) i.codes && distinct i.codes) bad_index
   _ ← require (slots_good u i.identities i.rows) bad_index

@@ -14,8 +14,8 @@ use Rattle.bundle.proofs.Whole.{head_word}
 use Rattle.bundle.proofs.Back.{object_in}
 use Rattle.bundle.proofs.WordsAnswered.{bundle_only}
 use Rattle.numbers.specs.Limits.{section_limit, package_limit}
-use Rattle.elf.specs.File.{File, Header, unstored, body_of, code_of, wanted_of, file_of, sections_inside, elf_of}
-use Rattle.elf.specs.Elf32.{file32_of, elf32_of, bundle32_read}
+use Rattle.elf.specs.File.{File, Header, unstored, body_of, code_of, wanted_of, with_names, from_type, file_of, sections_inside, elf_of}
+use Rattle.elf.specs.Elf32.{with_names32, from_type32, file32_of, elf32_of, bundle32_read}
 use Rattle.elf.specs.Reader.{readable, first_info, unit_stated, object_word, sections_read, bundle_of_word, bundle_from, bundle_read}
 use Rattle.elf.proofs.Held.{holds, holds32}
 use Rattle.join.specs.Join.{starts_elf, elf_bundle, as_it_is, as_bundle, file_bundle, head_of}
@@ -42,7 +42,7 @@ pub record Ordered (f : List ℕ) (e : File) : Type 0 where
   pub long : 52 ≤ length f
 
 file_ordered : (f : List ℕ) (e : File) → file_of f ≡ Ok e → Ordered f e
-unfolding file_of
+unfolding file_of from_type with_names
 file_ordered f e h =
     let a = require_pass (leb 64 (length f)) 31 _ e h in
     let b = require_pass (same (take 5 f) (0x7F ∷ 0x45 ∷ 0x4C ∷ 0x46 ∷ 2 ∷ [])) 31 _ e a.1 in
@@ -56,7 +56,7 @@ file_ordered f e h =
     record { order = ap (λ (z : File). z.big) (sym l); long = omega (arith, leb-true 64 (length f) a.0) }
 
 file32_ordered : (f : List ℕ) (e : File) → file32_of f ≡ Ok e → Ordered f e
-unfolding file32_of
+unfolding file32_of from_type32 with_names32
 file32_ordered f e h =
     let a = require_pass (leb 52 (length f)) 31 _ e h in
     let b = require_pass (same (take 5 f) (0x7F ∷ 0x45 ∷ 0x4C ∷ 0x46 ∷ 1 ∷ [])) 31 _ e a.1 in
@@ -266,7 +266,7 @@ unfolding sections_inside
 inside_only f e = only_bind 31 _ _ (only_require _ 31) (λ _. only_bind 31 _ _ (only_require _ 31) (λ _. only_pass 31 _))
 
 elf_only : (f : List ℕ) → Only 31 (elf_of f)
-unfolding elf_of file_of
+unfolding elf_of file_of from_type with_names
 elf_only f =
     only_bind 31 _ _
     (only_bind 31 _ _ (only_require _ 31) (λ _. only_bind 31 _ _ (only_require _ 31) (λ _. only_bind 31 _ _ (only_require _ 31) (λ _.
@@ -275,7 +275,7 @@ elf_only f =
     (inside_only f)
 
 elf32_only : (f : List ℕ) → Only 31 (elf32_of f)
-unfolding elf32_of file32_of
+unfolding elf32_of file32_of from_type32 with_names32
 elf32_only f =
     only_bind 31 _ _
     (only_bind 31 _ _ (only_require _ 31) (λ _. only_bind 31 _ _ (only_require _ 31) (λ _. only_bind 31 _ _ (only_require _ 31) (λ _.

@@ -35,6 +35,11 @@ file_big = 127 ∷ 69 ∷ 76 ∷ 70 ∷ 2 ∷ 2 ∷ 1 ∷ 0 ∷ 0 ∷ 0 ∷ 0 �
 abbrev first : List ℕ
 first = words (0xF000_0000 ∷ 0x1008_0405 ∷ 0x2080_0001 ∷ 0x11 ∷ 0x3000_0005 ∷ [])
 
+-- the word by which a file is told to be an ELF file is the four bytes that start it
+pub magic_word : Join.elf_word ≡ Octets.little (File.magic [])
+unfolding Octets.little
+magic_word = refl
+
 abbrev pub Joins : Type 0
 Joins =
     -- behind the bundle: the object that the file's unit states, and its info
@@ -47,7 +52,7 @@ Joins =
     × (joined first (127 ∷ 69 ∷ 76 ∷ 70 ∷ []) ≡ Err 31)
 
 pub joins : Joins
-unfolding Names.dwo_words Names.index_words Names.name_prefix Names.name_suffix Names.dwo_name Names.index_name Names.section_names Checked.◌>>=◌ Checked.require Lists.same Octets.part Octets.little Octets.big_from Octets.number Octets.number_at Octets.little_of Octets.big_of Octets.bytes_of Octets.numbers_of Octets.zeros Answers.answered Bundle.filled_up InitialLength.marked InitialLength.length_field InitialLength.length_stated Written.word_bytes Written.head_bytes Written.section_bytes Written.object_bytes Written.end_bytes Written.written UnitRead.length_good UnitRead.unit_size UnitRead.is_five UnitRead.address_place UnitRead.common_size UnitRead.behind_common UnitRead.identity_five UnitRead.identity_of UnitRead.unit_by UnitRead.unit_of UnitRead.not_eleven UnitRead.header_passes File.header_at File.headers_at File.unstored File.body_of File.inside File.file_of File.starts_with File.code_among File.code_of File.is_wanted File.ended File.wanted_of File.sections_inside File.elf_of Reader.compressed Reader.relocates Reader.readable Reader.first_info Reader.width_stated Reader.version_stated Reader.encoding_stated Reader.unit_stated Reader.object_word Reader.sections_read Reader.bundle_of_word Reader.bundle_from Reader.bundle_read Reader.elf_read Elf32.header32_at Elf32.headers32_at Elf32.file32_of Elf32.elf32_of Elf32.bundle32_read Bundle.object_step Bundle.section_step Bundle.end_step Bundle.step_of Bundle.step_at Bundle.followed Bundle.items_from Bundle.items Bundle.leading Bundle.objects_of Bundle.object_first Bundle.bundle_of Join.starts_elf Join.elf_bundle Join.as_it_is Join.as_bundle Join.file_bundle Join.framed Join.contents Join.behind Join.joined_with Join.joined_behind Join.joined
+unfolding Names.dwo_words Names.index_words Names.name_prefix Names.name_suffix Names.dwo_name Names.index_name Names.section_names Checked.◌>>=◌ Checked.require Lists.same Octets.part Octets.little Octets.big_from Octets.number Octets.number_at Octets.little_of Octets.big_of Octets.bytes_of Octets.numbers_of Octets.zeros Answers.answered Bundle.filled_up InitialLength.marked InitialLength.length_field InitialLength.length_stated Written.word_bytes Written.head_bytes Written.section_bytes Written.object_bytes Written.end_bytes Written.written UnitRead.length_good UnitRead.unit_size UnitRead.is_five UnitRead.address_place UnitRead.common_size UnitRead.behind_common UnitRead.identity_five UnitRead.identity_of UnitRead.unit_by UnitRead.unit_of UnitRead.not_eleven UnitRead.header_passes File.header_at File.headers_at File.unstored File.body_of File.inside File.with_names File.from_type File.file_of File.starts_with File.code_among File.code_of File.is_wanted File.ended File.wanted_of File.sections_inside File.elf_of Reader.compressed Reader.relocates Reader.readable Reader.first_info Reader.width_stated Reader.version_stated Reader.encoding_stated Reader.unit_stated Reader.object_word Reader.sections_read Reader.bundle_of_word Reader.bundle_from Reader.bundle_read Reader.elf_read Elf32.header32_at Elf32.headers32_at Elf32.with_names32 Elf32.from_type32 Elf32.file32_of Elf32.elf32_of Elf32.bundle32_read Bundle.object_step Bundle.section_step Bundle.end_step Bundle.step_of Bundle.step_at Bundle.followed Bundle.items_from Bundle.items Bundle.leading Bundle.objects_of Bundle.object_first Bundle.bundle_of Join.starts_elf Join.elf_bundle Join.as_it_is Join.as_bundle Join.file_bundle Join.framed Join.contents Join.behind Join.joined_with Join.joined_behind Join.joined
 joins = (refl, refl, refl, refl, refl)
 
 -- the same files opened: an object without an index is a package
@@ -59,5 +64,5 @@ Opens =
     × (opened (127 ∷ 69 ∷ 76 ∷ 70 ∷ []) 9 ≡ refused 31)
 
 pub opens : Opens
-unfolding Names.dwo_words Names.index_words Names.name_prefix Names.name_suffix Names.dwo_name Names.index_name Names.section_names Checked.◌>>=◌ Checked.require Checked.renumbered Lists.same Octets.part Octets.little Octets.big_from Octets.number Octets.number_at Octets.little_of Octets.big_of Octets.bytes_of Octets.numbers_of Octets.zeros Answers.answered Bundle.filled_up InitialLength.marked InitialLength.length_field InitialLength.length_stated Written.word_bytes Written.head_bytes Written.section_bytes Written.object_bytes Written.end_bytes Written.written UnitRead.length_good UnitRead.unit_size UnitRead.is_five UnitRead.address_place UnitRead.common_size UnitRead.behind_common UnitRead.identity_five UnitRead.identity_of UnitRead.unit_by UnitRead.unit_of UnitRead.not_eleven UnitRead.header_passes File.header_at File.headers_at File.unstored File.body_of File.inside File.file_of File.starts_with File.code_among File.code_of File.is_wanted File.ended File.wanted_of File.sections_inside File.elf_of Reader.compressed Reader.relocates Reader.readable Reader.first_info Reader.width_stated Reader.version_stated Reader.encoding_stated Reader.unit_stated Reader.object_word Reader.sections_read Reader.bundle_of_word Reader.bundle_from Reader.bundle_read Reader.elf_read Elf32.header32_at Elf32.headers32_at Elf32.file32_of Elf32.elf32_of Elf32.bundle32_read Bundle.object_step Bundle.section_step Bundle.end_step Bundle.step_of Bundle.step_at Bundle.followed Bundle.items_from Bundle.items Bundle.leading Bundle.objects_of Bundle.object_first Bundle.bundle_of Join.starts_elf Join.elf_bundle Bundle.length_good Bundle.parts_of Bundle.count Bundle.first_part Bundle.body Encoding.encoding_of Encoding.encoding_good Lookup.codes Lookup.package_index Lookup.object_judged Lookup.objects_judged Lookup.package_of Open.words_of Open.made_package Open.judged Open.opened
+unfolding Names.dwo_words Names.index_words Names.name_prefix Names.name_suffix Names.dwo_name Names.index_name Names.section_names Checked.◌>>=◌ Checked.require Checked.renumbered Lists.same Octets.part Octets.little Octets.big_from Octets.number Octets.number_at Octets.little_of Octets.big_of Octets.bytes_of Octets.numbers_of Octets.zeros Answers.answered Bundle.filled_up InitialLength.marked InitialLength.length_field InitialLength.length_stated Written.word_bytes Written.head_bytes Written.section_bytes Written.object_bytes Written.end_bytes Written.written UnitRead.length_good UnitRead.unit_size UnitRead.is_five UnitRead.address_place UnitRead.common_size UnitRead.behind_common UnitRead.identity_five UnitRead.identity_of UnitRead.unit_by UnitRead.unit_of UnitRead.not_eleven UnitRead.header_passes File.header_at File.headers_at File.unstored File.body_of File.inside File.with_names File.from_type File.file_of File.starts_with File.code_among File.code_of File.is_wanted File.ended File.wanted_of File.sections_inside File.elf_of Reader.compressed Reader.relocates Reader.readable Reader.first_info Reader.width_stated Reader.version_stated Reader.encoding_stated Reader.unit_stated Reader.object_word Reader.sections_read Reader.bundle_of_word Reader.bundle_from Reader.bundle_read Reader.elf_read Elf32.header32_at Elf32.headers32_at Elf32.with_names32 Elf32.from_type32 Elf32.file32_of Elf32.elf32_of Elf32.bundle32_read Bundle.object_step Bundle.section_step Bundle.end_step Bundle.step_of Bundle.step_at Bundle.followed Bundle.items_from Bundle.items Bundle.leading Bundle.objects_of Bundle.object_first Bundle.bundle_of Join.starts_elf Join.elf_bundle Bundle.length_good Bundle.parts_of Bundle.count Bundle.first_part Bundle.body Encoding.encoding_of Encoding.encoding_good Lookup.codes Lookup.package_index Lookup.object_judged Lookup.objects_judged Lookup.package_of Open.words_of Open.made_package Open.judged Open.opened
 opens = (refl, refl, refl, refl)

@@ -4,11 +4,13 @@ use Rattle.octets.specs.Octets.{number_at}
 use Rattle.numbers.specs.Limits.{package_limit}
 use Rattle.numbers.specs.Refusals.{output_short, section_too_long}
 use Rattle.answers.specs.declared.Written.{Written}
+use Rattle.bundle.specs.Bundle.{little_head, big_head}
+use Rattle.elf.specs.File.{big_endian}
 use Rattle.join.specs.Join.{starts_elf, other_order}
 
 -- the head word that a file's bundle has, as the file's first bytes tell it
 unfoldable pub file_head : List ℕ → ℕ
-file_head f = if starts_elf f then (if slice_index f 5 == 2 then 0xF000_0001 else 0xF000_0000) else number_at false 4 f 0
+file_head f = if starts_elf f then (if slice_index f 5 == big_endian then big_head else little_head) else number_at false 4 f 0
 
 -- what a file's reader has answered, as an answer on the joined bundle, which has n bytes more
 unfoldable pub answer_behind : Written → ℕ → Bool → Written

@@ -1,12 +1,13 @@
 -- Files joined to one bundle: the objects of each file stand behind those of the files before it.
-use Rattle.std.specs.Prelude.{Bool, false, ◌&&◌, ◌||◌, List, ◌++◌, ℕ, ◌+◌, ◌-◌, ◌/◌, ◌%◌, ◌==◌, nat_le, if◌then◌else◌, length, take, drop, slice_index, Result, Ok}
+use Rattle.std.specs.Prelude.{Bool, false, ◌&&◌, ◌||◌, List, ◌++◌, ℕ, ◌+◌, ◌*◌, ◌-◌, ◌/◌, ◌%◌, ◌==◌, nat_le, if◌then◌else◌, length, take, drop, slice_index, Result, Ok}
 use Rattle.octets.specs.Octets.{number_at, padded}
 use Rattle.octets.specs.Checked.{◌>>=◌, require}
 use Rattle.numbers.specs.Limits.{package_limit}
 use Rattle.numbers.specs.Refusals.{bad_words, section_too_long}
 use Rattle.answers.specs.Answers.{Answer, refused, short, made, answered}
-use Rattle.bundle.specs.Bundle.{bundle_of}
+use Rattle.bundle.specs.Bundle.{kinds, end_kind, little_head, big_head, least_bundle, bundle_of}
 use Rattle.bundle.specs.Written.{end_bytes}
+use Rattle.elf.specs.File.{class_32}
 use Rattle.elf.specs.Reader.{bundle_read}
 use Rattle.elf.specs.Elf32.{bundle32_read}
 
@@ -15,9 +16,12 @@ abbrev pub other_order : ℕ
 other_order = 45
 
 -- ---- one file, as a bundle
--- 7F and "ELF" start an ELF file, and no bundle
+-- 7F and "ELF" as a little-endian word: they start an ELF file, and no bundle
+abbrev pub elf_word : ℕ
+elf_word = 0x464C_457F
+
 unfoldable pub starts_elf : List ℕ → Bool
-starts_elf f = nat_le 4 (length f) && number_at false 4 f 0 == 0x464C_457F
+starts_elf f = nat_le 4 (length f) && number_at false 4 f 0 == elf_word
 
 -- it isn't longer than what may be read (19)
 unfoldable pub as_it_is : List ℕ → Result (List ℕ) ℕ
@@ -27,9 +31,9 @@ as_it_is f = require (nat_le (length f) package_limit) section_too_long >>= λ _
 unfoldable pub as_bundle : List ℕ → Result (List ℕ) ℕ
 as_bundle f = bundle_of f >>= λ _. as_it_is f
 
--- an ELF file is read into one (31 to 33, 19), by its class: 1 is 32 bits
+-- an ELF file is read into one (31 to 33, 19), by its class
 unfoldable pub elf_bundle : List ℕ → Result (List ℕ) ℕ
-elf_bundle f = if slice_index f 4 == 1 then bundle32_read f else bundle_read f
+elf_bundle f = if slice_index f 4 == class_32 then bundle32_read f else bundle_read f
 
 unfoldable pub file_bundle : List ℕ → Result (List ℕ) ℕ
 file_bundle f = if starts_elf f then elf_bundle f else as_bundle f
@@ -41,8 +45,8 @@ head_of b = number_at false 4 b 0
 -- the head of either byte order, and an end word that counts the words
 unfoldable pub framed : List ℕ → Bool
 framed b =
-    nat_le 8 (length b) && length b % 4 == 0 && (head_of b == 0xF000_0000 || head_of b == 0xF000_0001)
-    && number_at false 4 b (length b - 4) == 0x3000_0000 + length b / 4
+    nat_le least_bundle (length b) && length b % 4 == 0 && (head_of b == little_head || head_of b == big_head)
+    && number_at false 4 b (length b - 4) == end_kind * kinds + length b / 4
 
 -- ---- both
 -- what stands between head and end: the objects

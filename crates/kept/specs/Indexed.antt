@@ -2,6 +2,7 @@
 use Rattle.std.specs.Prelude.{List, [], ◌∷◌, ◌++◌, map, ℕ, ◌+◌, ◌*◌, length}
 use Rattle.octets.specs.Octets.{numbers_of}
 use Rattle.octets.specs.Lists.{joined, those}
+use Rattle.index.specs.Index.{index_size as size_of_index}
 use Rattle.index.specs.Written.{start_bytes}
 use Rattle.kept.specs.Columns.{version_for, columns_for, codes_in, cells_from}
 use Rattle.kept.specs.Records.{KeptUnit, records_from, in_table, identity_for, row_for}
@@ -13,7 +14,7 @@ use Rattle.kept.specs.declared.writing.SlotNumbers.TheVariants.{Identities, Rows
 
 -- the bytes of an index, by its numbers of columns, rows and slots
 unfoldable pub index_size : ℕ → ℕ → ℕ → ℕ
-index_size columns n slots = 16 + 12 * slots + 4 * columns + 8 * (n * columns)
+index_size columns n slots = size_of_index columns n slots
 
 -- a record's numbers of the columns that are there: 0 are offsets, 1 sizes
 unfoldable pub numbers_in : IndexForm → ℕ → KeptUnit → List ℕ

@@ -1,12 +1,12 @@
 -- Limits, in bytes where nothing else is said.
-use Rattle.std.specs.Prelude.{ℕ}
+use Rattle.std.specs.Prelude.{ℕ, ◌*◌, ◌/◌}
 
 -- The longest bundle that is packed (1), and its words.
 abbrev pub bundle_limit : ℕ
 bundle_limit = 4_194_304
 
 abbrev pub words_limit : ℕ
-words_limit = 1_048_576
+words_limit = bundle_limit / 4
 
 -- The longest package that is looked into (21), written as a file or read from one.
 abbrev pub package_limit : ℕ
@@ -33,7 +33,7 @@ abbrev pub small_bundle : ℕ
 small_bundle = 1_024
 
 abbrev pub small_work : ℕ
-small_work = 5_120
+small_work = work_for_word * (small_bundle / 4)
 
 abbrev pub small_output : ℕ
 small_output = 65_536

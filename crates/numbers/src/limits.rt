@@ -1,4 +1,17 @@
 // Limits, in bytes where nothing else is said.
+ghost use Rattle.std.specs.Prelude.{◌≡◌};
+ghost use Rattle.numbers.specs.Limits.{
+  bundle_limit,
+  package_limit,
+  section_limit,
+  work_for_word,
+  string_words,
+  small_bundle,
+  small_work,
+  small_output,
+  questions_limit,
+};
+
 // The longest bundle that is packed (1).
 pub const BUNDLE_LIMIT: usize = 4_194_304;
 
@@ -23,3 +36,16 @@ pub const SMALL_OUTPUT: usize = 65_536;
 
 // The most questions that one call answers.
 pub const QUESTIONS_LIMIT: usize = 1_024;
+
+// Each is the definitions' own: a function that does nothing and says so.
+pub fn limits_agree()
+    ensures bundle { BUNDLE_LIMIT ≡ bundle_limit }
+    ensures package { PACKAGE_LIMIT ≡ package_limit }
+    ensures section { SECTION_LIMIT ≡ section_limit }
+    ensures work { WORK_FOR_WORD ≡ work_for_word }
+    ensures strings { STRING_WORDS ≡ string_words }
+    ensures small_bundle { SMALL_BUNDLE ≡ small_bundle }
+    ensures small_work { SMALL_WORK ≡ small_work }
+    ensures small_output { SMALL_OUTPUT ≡ small_output }
+    ensures questions { QUESTIONS_LIMIT ≡ questions_limit }
+{}

@@ -1,5 +1,21 @@
 // The two tables of units, the versions of DWARF and of an index, the columns of an index, and the types of a version 5 unit.
 ghost use Rattle.std.specs.Prelude.{◌≡◌};
+ghost use Rattle.numbers.specs.Tables.{
+  compilation_table,
+  type_table,
+  dwarf4,
+  dwarf5,
+  index2,
+  index5,
+  columns2,
+  columns5,
+  last_column,
+  types_column,
+  type_unit,
+  skeleton_unit,
+  split_unit,
+  split_type_unit,
+};
 ghost use Rattle.numbers.specs.Tabled.{table_number, table_named};
 
 use crate::refusals::Refusal;
@@ -70,3 +86,21 @@ pub const SKELETON_UNIT: u8 = 4;
 pub const SPLIT_UNIT: u8 = 5;
 
 pub const SPLIT_TYPE_UNIT: u8 = 6;
+
+// Each is the definitions' own: a function that does nothing and says so.
+pub fn tables_agree()
+    ensures compilation { COMPILATION ≡ compilation_table }
+    ensures types { TYPE ≡ type_table }
+    ensures dwarf_4 { DWARF_4 ≡ dwarf4 }
+    ensures dwarf_5 { DWARF_5 ≡ dwarf5 }
+    ensures index_2 { INDEX_2 ≡ index2 }
+    ensures index_5 { INDEX_5 ≡ index5 }
+    ensures columns_2 { COLUMNS_2 ≡ columns2 }
+    ensures columns_5 { COLUMNS_5 ≡ columns5 }
+    ensures last_column { LAST_COLUMN ≡ last_column }
+    ensures types_column { TYPES_COLUMN ≡ types_column }
+    ensures type_unit { TYPE_UNIT ≡ type_unit }
+    ensures skeleton_unit { SKELETON_UNIT ≡ skeleton_unit }
+    ensures split_unit { SPLIT_UNIT ≡ split_unit }
+    ensures split_type_unit { SPLIT_TYPE_UNIT ≡ split_type_unit }
+{}

@@ -16,9 +16,9 @@ use Rattle.bundle.specs.Written.{Section, written}
 use Rattle.bundle.specs.InitialLength.{marked, length_field}
 use Rattle.bundle.proofs.Every.{Every, also}
 use Rattle.bundle.proofs.WrittenParts.{bytes_in}
-use Rattle.elf.specs.File.{Header, File, header_at, headers_at, no_header, unstored, body_of, inside, code_of, is_wanted, ended, wanted_of, file_of, elf_of}
+use Rattle.elf.specs.File.{Header, File, header_at, headers_at, no_header, unstored, body_of, inside, code_of, is_wanted, ended, wanted_of, file_of, elf_of, from_type}
 use Rattle.elf.specs.Reader.{relocates, readable, first_info, width_stated, version_stated, encoding_stated, unit_stated, object_word, bundle_read}
-use Rattle.elf.specs.Held.{from_type, sections_in, section_of, short_enough, one_object}
+use Rattle.elf.specs.Held.{sections_in, section_of, short_enough, one_object}
 use Rattle.elf.proofs.Headers.{header_there}
 use Rattle.elf.proofs.Judged.{unwanted}
 use Rattle.elf.proofs.Opening.{open_type, table_there, names_there}

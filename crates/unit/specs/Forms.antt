@@ -25,15 +25,22 @@ pub record Form : Type 0 where
   pub form : ℕ
   pub width : Width
 
+-- 8 bytes, the only form of an identity; and a form in front of a value
+abbrev pub data8 : ℕ
+data8 = 0x07
+
+abbrev pub indirect_form : ℕ
+indirect_form = 0x16
+
 abbrev of : ℕ → Width → Form
 of f w = record { form = f; width = w }
 
 unfoldable pub forms : List Form
 forms =
-    of 0x01 address ∷ of 0x03 (block 2) ∷ of 0x04 (block 4) ∷ of 0x05 (fixed 2) ∷ of 0x06 (fixed 4) ∷ of 0x07 (fixed 8)
+    of 0x01 address ∷ of 0x03 (block 2) ∷ of 0x04 (block 4) ∷ of 0x05 (fixed 2) ∷ of 0x06 (fixed 4) ∷ of data8 (fixed 8)
     ∷ of 0x08 string ∷ of 0x09 uleb_block ∷ of 0x0A (block 1) ∷ of 0x0B (fixed 1) ∷ of 0x0C (fixed 1) ∷ of 0x0D sleb
     ∷ of 0x0E offset ∷ of 0x0F uleb ∷ of 0x10 offset ∷ of 0x11 (fixed 1) ∷ of 0x12 (fixed 2) ∷ of 0x13 (fixed 4)
-    ∷ of 0x14 (fixed 8) ∷ of 0x15 uleb ∷ of 0x16 indirect ∷ of 0x17 offset ∷ of 0x18 uleb_block ∷ of 0x19 (fixed 0)
+    ∷ of 0x14 (fixed 8) ∷ of 0x15 uleb ∷ of indirect_form indirect ∷ of 0x17 offset ∷ of 0x18 uleb_block ∷ of 0x19 (fixed 0)
     ∷ of 0x20 (fixed 8) ∷ of 0x1F01 uleb ∷ of 0x1F02 uleb ∷ []
 
 unfoldable pub width_in : List Form → ℕ → Option Width

@@ -5,7 +5,7 @@ use Rattle.octets.specs.Octets.{number_at}
 use Rattle.octets.specs.Checked.{◌>>=◌, require}
 use Rattle.leb128.specs.Leb128.{short, unsigned}
 use Rattle.bundle.specs.Encoding.{Encoding}
-use Rattle.unit.specs.Forms.{forms, width_in, value_size}
+use Rattle.unit.specs.Forms.{data8, indirect_form, forms, width_in, value_size}
 use Rattle.unit.specs.Abbreviations.{Attribute, declarations_of, declaration_of}
 
 -- 12 where there is none
@@ -27,10 +27,10 @@ plain_value e form s = do
   _ ← require (nat_le size (length s)) no_identity
   Ok (record { form = form; start = 0; size = size })
 
--- indirect, 16 hexadecimal, only once
+-- indirect only once
 unfoldable pub value_of : Encoding → ℕ → List ℕ → Result Value ℕ
 value_of e form s =
-    if form == 0x16
+    if form == indirect_form
     then (short s >>= λ r. (plain_value e r.0 (drop r.1 s) >>= λ v. Ok (record { form = v.form; start = r.1; size = v.size })))
     else plain_value e form s
 
@@ -39,7 +39,7 @@ unfoldable pub identity_at : Encoding → ℕ → Value → List ℕ → Option 
 identity_at e name v s (Some x) = Ok (Some x)
 identity_at e name v s None =
     if name == 0x2131
-    then (require (v.form == 7) no_identity >>= λ _. Ok (Some (number_at e.big 8 s v.start)))
+    then (require (v.form == data8) no_identity >>= λ _. Ok (Some (number_at e.big 8 s v.start)))
     else Ok None
 
 -- the identity that attributes state, whose values all end in s, where those before them state seen

@@ -6,9 +6,9 @@ use Rattle.std.proofs.lemmas.Result.{err_from_is_err_and}
 use Rattle.numbers.specs.declared.refusals.Refusal.TheVariants.{NotElf}
 use Rattle.std.specs.Prelude.{Ok}
 use Rattle.octets.specs.Checked.{mapped}
-use Rattle.elf.specs.Elf32.{headers32_at}
+use Rattle.elf.specs.Elf32.{headers32_at, with_names32}
 use Rattle.elf.specs.Classes.{headers_of_class}
-use Rattle.elf.specs.Held.{header_is, with_names32}
+use Rattle.elf.specs.Held.{header_is}
 use Rattle.elf.proofs.Opening32.{type_other, size_other, headers_outside, table_outside, table_there, names_there, names_outside}
 use Rattle.elf.proofs.file.ElfFile.with_elf32_headers.Goals as goal
 use Rattle.elf.proofs.file.ElfFile.with_elf32_headers.Goals.{then-u16_at-ne1-via-then-u16_at-ne1, then-u16_at-ne1-via-else-u16_at-ne1+then-u16_at-ne40}
