@@ -13,7 +13,7 @@ const JUNK: usize = 1 << 16;
 /// What is lent first where the package's length is not known.
 const FIRST_OUTPUT: usize = 4_096;
 
-/// What a packing may take, whatever the bundle: so much for each word of work, which is a hundred times what honest bundles take, and so
+/// What a packing may take, whatever the bundle: so much for each word of work, some hundreds of times what honest bundles take, and so
 /// much besides.
 const FOR_A_WORD: Duration = Duration::from_nanos(350);
 const BESIDES: Duration = Duration::from_micros(500);
