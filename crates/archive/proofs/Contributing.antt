@@ -1,7 +1,8 @@
 -- What is filed for a first unit is what it contributes; and a unit that is not the first of its identity is for the type table.
-use Rattle.std.proofs.Common.{◌≡◌, refl, sym, ap, ◌∙◌, subst, Bool, true, false, not, ⊎_elim, List, [], ◌∷◌, ◌++◌, append_assoc, append-nil, ℕ, zero, suc, ◌+◌, ◌-◌, ◌≤◌, arith, eqb, leb, length, get_or, drop, length-append, eqb-true, ne_eqb, leb-true}
+use Rattle.std.proofs.Common.{◌≡◌, refl, sym, ap, ◌∙◌, subst, Bool, true, false, not, ⊎_elim, List, [], ◌∷◌, ◌++◌, map, append_assoc, append-nil, ℕ, zero, suc, ◌+◌, ◌-◌, ◌≤◌, arith, eqb, leb, length, get_or, drop, length-append, eqb-true, ne_eqb, leb-true}
 use Rattle.std.specs.Prelude.{Option, if◌then◌else◌, Some, None, Ok}
-use Rattle.octets.specs.Lists.{any, all, has}
+use Rattle.octets.specs.Lists.{any, all, has, joined}
+use Rattle.octets.proofs.Joined.{map-append, joined_snoc}
 use Rattle.octets.proofs.Checks.{bind_pass, require_pass, pass_inj, pass_refuse, known, true_false, and_left, and_right}
 use Rattle.octets.proofs.Elements.{no_length, has_at}
 use Rattle.octets.proofs.Lists.{all_head, all_tail}
@@ -122,7 +123,7 @@ whole_not n c e = rw (whole_contributions, e)
 other_some : {A : Type 0} {a : A} {P : Type 0} → None ≡ Some a → P
 other_some e = let z : ◌≡◌ {A = ℕ} 0 1 = cc in absurd (omega arith)
 
-module _ (u : Filed) (at : ℕ) (stands : StandsAt u at) (reads : ReadAt u at) (q : contributions_of u.input u.home at (reading_of u) ≡ Ok u.contributions) where
+module _ (earlier : List Filed) (u : Filed) (at : ℕ) (stands : StandsAt earlier u at) (reads : ReadAt u at) (q : contributions_of u.input u.home at (reading_of u) ≡ Ok u.contributions) where
   filled : (c : ℕ) → (u.input.bytes c ≡ [] → ⊥) → lengths u.input c ≡ 0 → ⊥
   unfolding lengths
   filled c e z = e (no_length (u.input.bytes c) z)
@@ -139,7 +140,7 @@ module _ (u : Filed) (at : ℕ) (stands : StandsAt u at) (reads : ReadAt u at) (
   unfolding lengths
   nothing_there c e = needed_none (lengths u.input) c (ap length e)
 
-  unit_contributes : Contributes u
+  unit_contributes : Contributes earlier u
   unfolding lengths
   unit_contributes = record {
     by_row = λ x e.
@@ -164,7 +165,7 @@ module _ (u : Filed) (at : ℕ) (stands : StandsAt u at) (reads : ReadAt u at) (
 -- ---- all units, each behind those before it
 -- a unit behind ks: it contributes, if none of them has its identity; if one has, it is no compilation
 pub record Behind (ks : List Filed) (u : Filed) : Type 0 where
-  pub first : any (is_under u.table u.identity) ks ≡ false → Contributes u
+  pub first : any (is_under u.table u.identity) ks ≡ false → Contributes ks u
   pub again : any (is_under u.table u.identity) ks ≡ true → u.table ≡ 1 → ⊥
 
 -- each of these units, behind ks and those before it
@@ -181,6 +182,10 @@ each_at ks [] behind u e = subst (λ (l : List Filed). Behind l u) (sym (append-
 each_at ks (k ∷ before) behind u e =
     subst (λ (l : List Filed). Behind l u) (append_assoc ks (k ∷ []) before) (each_at (ks ++ (k ∷ [])) before behind u e.1)
 
+-- the bytes of units, and of one more
+bytes_more : (us : List Filed) (u : Filed) → joined (map (λ (w : Filed). w.bytes) (us ++ (u ∷ []))) ≡ joined (map (λ (w : Filed). w.bytes) us) ++ u.bytes
+bytes_more us u = ap joined (map-append (λ (w : Filed). w.bytes) us (u ∷ [])) ∙ joined_snoc (map (λ (w : Filed). w.bytes) us) u.bytes
+
 -- filed behind some of this object: these are new
 record New (earlier here us : List Filed) : Type 0 where
   new : List Filed
@@ -196,48 +201,55 @@ module _ (i : Input) (bases : BySection ℕ) (earlier : List Filed) (good : (x :
       let filed : skipped u.table ≡ Ok u.contributions = rw f at t.contributed in
       pass_refuse u.contributions 14 (sym filed ∙ ap skipped one)
 
-  -- a unit at the front of what is left of a section
-  taken_contributes : (here : List Filed) (section : Section) (before behind : List Section) (front s : List ℕ) (u : Filed)
-      → i.units ≡ before ++ (section ∷ behind) → section.bytes ≡ front ++ s
-      → Taken i bases earlier here section.code (length front) s u → any (is_under u.table u.identity) (earlier ++ here) ≡ false → Contributes u
-  taken_contributes here section before behind front s u listed bytes t f =
+  -- a unit at the front of what is left of a section, behind the units `mine` of that section
+  taken_contributes : (here : List Filed) (section : Section) (before behind : List Section) (older mine : List Filed) (s : List ℕ) (u : Filed)
+      → i.units ≡ before ++ (section ∷ behind) → earlier ++ here ≡ older ++ mine → section.bytes ≡ joined (map (λ w. w.bytes) mine) ++ s
+      → Taken i bases earlier here section.code (length (joined (map (λ w. w.bytes) mine))) s u → any (is_under u.table u.identity) (earlier ++ here) ≡ false
+      → Contributes (earlier ++ here) u
+  taken_contributes here section before behind older mine s u listed split bytes t f =
+      let front = joined (map (λ (w : Filed). w.bytes) mine) in
       let at = length front in
       let reads : ReadAt u at = read_at i bases earlier good here section.code at s u t in
-      let stands : StandsAt u at = record {
+      let stands : StandsAt (earlier ++ here) u at = record {
         section = section;
         before = before;
         behind = behind;
         listed = ap (λ (j : Input). j.units) t.object ∙ listed;
         home = sym t.section;
-        front = front;
+        others = older;
+        here = mine;
+        right_before = split;
         rest = drop (length u.bytes) s;
         bytes = bytes ∙ ap (λ (l : List ℕ). front ++ l) t.rest;
         counted = refl;
       } in
       let own : contributions_of i section.code at (reading_of u) ≡ Ok u.contributions = rw f at t.contributed in
-      unit_contributes u at stands reads
+      unit_contributes (earlier ++ here) u at stands reads
       (subst (λ (j : Input). contributions_of j u.home at (reading_of u) ≡ Ok u.contributions) (sym t.object)
       (subst (λ (h : ℕ). contributions_of i h at (reading_of u) ≡ Ok u.contributions) (sym t.section) own))
 
   units_each : (section : Section) (before behind : List Section) → i.units ≡ before ++ (section ∷ behind)
-      → (k : ℕ) (here : List Filed) (front s : List ℕ) (us : List Filed) → section.bytes ≡ front ++ s
-      → units_from k i bases earlier here section.code (length front) s ≡ Ok us → New earlier here us
+      → (k : ℕ) (here older mine : List Filed) (s : List ℕ) (us : List Filed) → earlier ++ here ≡ older ++ mine → section.bytes ≡ joined (map (λ w. w.bytes) mine) ++ s
+      → units_from k i bases earlier here section.code (length (joined (map (λ w. w.bytes) mine))) s ≡ Ok us → New earlier here us
   unfolding units_from
-  units_each section before behind listed zero here front s us w q = absurd (pass_refuse us 11 (sym q))
-  units_each section before behind listed (suc k) here front [] us w q = record { new = []; are = sym (pass_inj q) ∙ sym (append-nil here); each = tt }
-  units_each section before behind listed (suc k) here front (b ∷ s) us w q =
+  units_each section before behind listed zero here older mine s us e w q = absurd (pass_refuse us 11 (sym q))
+  units_each section before behind listed (suc k) here older mine [] us e w q = record { new = []; are = sym (pass_inj q) ∙ sym (append-nil here); each = tt }
+  units_each section before behind listed (suc k) here older mine (b ∷ s) us e w q =
+      let front = joined (map (λ (w : Filed). w.bytes) mine) in
       let r = bind_pass (unit_at i bases earlier here section.code (length front) (b ∷ s)) _ us q in
       let u = r.0 in
       let t = unit_taken i bases earlier here section.code (length front) (b ∷ s) u r.1 in
       let rest = drop (length u.bytes) (b ∷ s) in
-      let longer : length (front ++ u.bytes) ≡ length front + length u.bytes = length-append front u.bytes in
-      let m = units_each section before behind listed k (here ++ (u ∷ [])) (front ++ u.bytes) rest us
-      (w ∙ ap (λ (l : List ℕ). front ++ l) t.rest ∙ sym (append_assoc front u.bytes rest))
+      let more : joined (map (λ (w : Filed). w.bytes) (mine ++ (u ∷ []))) ≡ front ++ u.bytes = bytes_more mine u in
+      let longer : length (joined (map (λ (w : Filed). w.bytes) (mine ++ (u ∷ [])))) ≡ length front + length u.bytes = ap length more ∙ length-append front u.bytes in
+      let m = units_each section before behind listed k (here ++ (u ∷ [])) older (mine ++ (u ∷ [])) rest us
+      (sym (append_assoc earlier here (u ∷ [])) ∙ ap (λ (l : List Filed). l ++ (u ∷ [])) e ∙ append_assoc older mine (u ∷ []))
+      (w ∙ ap (λ (l : List ℕ). front ++ l) t.rest ∙ sym (append_assoc front u.bytes rest) ∙ ap (λ (l : List ℕ). l ++ rest) (sym more))
       (ap (λ (n : ℕ). units_from k i bases earlier (here ++ (u ∷ [])) section.code n rest) longer ∙ r.2) in
       record {
         new = u ∷ m.new;
         are = m.are ∙ append_assoc here (u ∷ []) m.new;
-        each = (record { first = taken_contributes here section before behind front (b ∷ s) u listed w t; again = taken_no_compilation here section.code (length front) (b ∷ s) u t }, subst (λ (l : List Filed). Each l m.new) (sym (append_assoc earlier here (u ∷ []))) m.each);
+        each = (record { first = taken_contributes here section before behind older mine (b ∷ s) u listed e w t; again = taken_no_compilation here section.code (length front) (b ∷ s) u t }, subst (λ (l : List Filed). Each l m.new) (sym (append_assoc earlier here (u ∷ []))) m.each);
       }
 
   sections_each : (before ss : List Section) → i.units ≡ before ++ ss → (here us : List Filed) → units_in i bases earlier here ss ≡ Ok us → New earlier here us
@@ -245,7 +257,7 @@ module _ (i : Input) (bases : BySection ℕ) (earlier : List Filed) (good : (x :
   sections_each before [] listed here us q = record { new = []; are = sym (pass_inj q) ∙ sym (append-nil here); each = tt }
   sections_each before (s ∷ ss) listed here us q =
       let r = bind_pass (units_from (suc (length s.bytes)) i bases earlier here s.code 0 s.bytes) _ us q in
-      let m = units_each s before ss listed (suc (length s.bytes)) here [] s.bytes r.0 refl r.1 in
+      let m = units_each s before ss listed (suc (length s.bytes)) here (earlier ++ here) [] s.bytes r.0 (sym (append-nil (earlier ++ here))) refl r.1 in
       let n = sections_each (before ++ (s ∷ [])) ss (listed ∙ sym (append_assoc before (s ∷ []) ss)) r.0 us r.2 in
       record {
         new = m.new ++ n.new;

@@ -66,7 +66,7 @@ asked t h = record { version = computed_files.version; tables = h }
 second_first : FirstOf their_units 1 2 second_unit
 second_first = record { before = first_unit ∷ []; behind = type_unit ∷ repeated ∷ other_bytes ∷ []; stands = refl; under = computed.under_two; none_before = computed.none_before_two }
 
-type_first : FirstOf their_units 2 7 type_unit
+abbrev type_first : FirstOf their_units 2 7 type_unit
 type_first = record { before = first_unit ∷ second_unit ∷ []; behind = repeated ∷ other_bytes ∷ []; stands = refl; under = computed.under_seven; none_before = computed.none_before_seven }
 
 second_found : HasUnit their_package 5 1 2 second_unit

@@ -1,11 +1,11 @@
 -- What is handed in is found: the first unit's parts and strings.
-use Rattle.std.proofs.Common.{◌≡◌, refl, sym, ap, ◌∙◌, subst, ⊎_elim, true, List, [], ◌∷◌, ◌++◌, ℕ, ◌+◌, ◌<◌, ◌≤◌, arith, length, get_or}
+use Rattle.std.proofs.Common.{◌≡◌, refl, sym, ap, ◌∙◌, subst, ⊎_elim, true, false, List, [], ◌∷◌, ◌++◌, ℕ, ◌+◌, ◌<◌, ◌≤◌, arith, length, get_or}
 use Rattle.std.specs.Prelude.{Option, Some, None, Result, Ok}
 use Rattle.octets.specs.Lists.{any}
 use Rattle.octets.specs.Checked.{◌>>=◌}
 use Rattle.octets.proofs.Checks.{true_false}
 use Rattle.octets.proofs.Numbers.{Bytes}
-use Rattle.bundle.specs.Bundle.{Part, Object}
+use Rattle.bundle.specs.Bundle.{Part, Object, first_part}
 use Rattle.bundle.proofs.RoundTrip.{parts_from}
 use Rattle.strings.specs.Strings.{string_at}
 use Rattle.strings.proofs.FirstUses.{is_in}
@@ -16,7 +16,7 @@ use Rattle.index.proofs.LawColumns.{form_of}
 use Rattle.index.proofs.LawWhole.{Indexed, probe_found}
 use Rattle.index.proofs.RoundTrip.{written}
 use Rattle.package.specs.Filing.{Filed, is_under, kept, entries_of_unit}
-use Rattle.package.specs.Pack.{handed_in, rows_of, string_table}
+use Rattle.package.specs.Pack.{handed_in, rows_of, string_table, unit_bytes}
 use Rattle.package.proofs.Kept.{First, first_any, kept_first, under_table, under_identity}
 use Rattle.package.proofs.Accepted.{Accepted, handed_in_law}
 use Rattle.package.proofs.PackageRead.{sections_of}
@@ -25,7 +25,7 @@ use Rattle.lookup.specs.Lookup.{Found, refused, part, Package, package_of, versi
 use Rattle.archive.specs.Theorem.{Asked, IsCode, IsFirst, looks_of, looks, Holds}
 use Rattle.archive.proofs.Read.{rows_in, version_in, Table, empty, full}
 use Rattle.archive.proofs.Places.{PlaceOf}
-use Rattle.archive.proofs.Units.{row_within, row_identity, AtCode, at_code}
+use Rattle.archive.proofs.Units.{row_within, row_identity, own_lies, AtCode, at_code}
 use Rattle.archive.proofs.Judged.{part_judged_law, string_judged_law, ends_found, ends_refused, looks_some}
 use Rattle.archive.proofs.StringPlaces.{its_string, no_other}
 use Rattle.archive.proofs.Absences.{some_rows, reads}
@@ -57,6 +57,7 @@ module _ (b p : List ℕ) (a : Accepted b p) (h : Bytes b) where
     pub xs : List Filed
     pub ys : List Filed
     pub stands : kept units ≡ xs ++ (u ∷ ys)
+    pub alone : any (is_under t x) xs ≡ false
     pub own : u.table ≡ t
     pub hit : FoundIn i.slots.rows i.slots.identities x (length (rows_of xs t) + 1)
     pub looked : looks b t x ≡ hit.looks
@@ -95,6 +96,7 @@ module _ (b p : List ℕ) (a : Accepted b p) (h : Bytes b) where
         xs = s.before;
         ys = s.behind;
         stands = s.stands;
+        alone = s.alone;
         own = own;
         hit = hit;
         looked = looks_some b p a t x n i.0 ∙ ap looks_of hit.is;
@@ -140,6 +142,22 @@ module _ (b p : List ℕ) (a : Accepted b p) (h : Bytes b) where
         let r = the_code code in
         subst (λ (z : Found). Holds p z (looks b t x) r.bytes) (sym (part_judged_law p s.k s.read v s.good t q.tables x code c.from c.to))
         (ends_at (λ i n. part_place s.k i n code) r.bytes (subst (λ (l : List Part). PlaceOf p (cell_place l code (cell_of index row code)) r.bytes) (sym s.parts) r.place))
+
+    -- its own bytes lie behind those of the kept units before it
+    pub the_place : IsCode u.home
+        → (l : Part) × (first_part s.k.parts u.home ≡ Some l) × (looked_up p v t x u.home ≡ part (l.start + length (unit_bytes s.xs u.home)) (length u.bytes) (looks b t x))
+    unfolding part_place
+    the_place c =
+        let r = own_lies b p a h s.o s.os s.objects t s.i s.xs u s.ys s.stands s.own in
+        let at = r.0.start + length (unit_bytes s.xs u.home) in (
+          r.0,
+          ap (λ (l : List Part). first_part l u.home) s.parts ∙ r.1,
+          part_judged_law p s.k s.read v s.good t q.tables x u.home c.from c.to
+              ∙ ap (λ (o : Option Index). answered (in_table o x (λ i n. part_place s.k i n u.home))) s.index
+              ∙ ends_found index x s.hit.slot s.hit.looks row (λ i n. part_place s.k i n u.home) (record { start = at; size = length u.bytes }) probed_is found_row
+              (ap (λ (l : List Part). cell_place l u.home (cell_of index row u.home)) s.parts ∙ r.2)
+              ∙ ap (part at (length u.bytes)) (sym s.looked),
+        )
 
     pub the_string : (n : ℕ) → n < length (entries_of_unit u)
         → (string : List ℕ) × (string_at 9 (u.input.bytes 11) (get_or (entries_of_unit u) n 0) ≡ Ok string) × Holds p (string_found p v t x n) (looks b t x) string

@@ -35,6 +35,7 @@ use Rattle.archive.proofs.Tables.{the_tables}
 use Rattle.archive.proofs.Few.{units_counted_law, finding_takes_law, absence_takes_law}
 use Rattle.archive.proofs.StrStrings.{first_uses_law, each_once, every_reached}
 use Rattle.archive.proofs.Firsts.{the_code, the_part, the_string, no_string}
+use Rattle.archive.proofs.OwnPlace.{own_place_law}
 
 part_absent : {P : Type 0} (s l n m : ℕ) → part s l n ≡ absent m → P
 part_absent s l n m e = let z : ◌≡◌ {A = ℕ} 0 1 = cc in absurd (omega arith)
@@ -173,6 +174,7 @@ module _ (b p : List ℕ) (a : Accepted b p) (h : Bytes b) where
     found_exactly_when_handed_in = found_exactly;
     the_first_unit = first_unit;
     the_first_unit_in_length = first_length;
+    its_own_place = own_place_law b p a h;
     its_strings = its_strings_law;
     no_other_string = no_other_string_law;
     absent_is_absent = absent_is b p a h;

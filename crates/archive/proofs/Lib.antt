@@ -11,6 +11,7 @@ pub mod Few
 pub mod Sums
 pub mod Tables
 pub mod Firsts
+pub mod OwnPlace
 pub mod StrPieces
 pub mod StrStrings
 pub mod Contributing

@@ -31,19 +31,27 @@ pub record PlaceOf (p : List ℕ) (c : Result Place ℕ) (bytes : List ℕ) : Ty
   pub is : c ≡ Ok (record { start = start; size = length bytes })
   pub holds : bytes_at p start (length bytes) ≡ bytes
 
+-- a part of a section that is there
+place_at : (p : List ℕ) (ps : List Part) (c : ℕ) (s : List ℕ) (q : Contribution) → (r : SectionIn p ps c s) → q.offset + q.size ≤ length s
+    → place_in (first_part ps c) q ≡ Ok (record { start = r.lies.start + q.offset; size = q.size })
+unfolding place_in
+place_at p ps c s q r h = rw r.is (passes (leb (q.offset + q.size) r.lies.size) 24 _ (le-leb (q.offset + q.size) r.lies.size (omega (arith, r.size))))
+
 place_some : (p : List ℕ) (ps : List Part) (c : ℕ) (s : List ℕ) (q : Contribution) → SectionIn p ps c s → q.offset + q.size ≤ length s
     → PlaceOf p (place_in (first_part ps c) q) (bytes_at s q.offset q.size)
-unfolding place_in
 place_some p ps c s q r h =
     let l = length_part s q.offset q.size h in
     record {
       start = r.lies.start + q.offset;
-      is = rw r.is (passes (leb (q.offset + q.size) r.lies.size) 24 _ (le-leb (q.offset + q.size) r.lies.size (omega (arith, r.size))))
-          ∙ ap (λ (n : ℕ). Ok (record { start = r.lies.start + q.offset; size = n })) (sym l);
+      is = place_at p ps c s q r h ∙ ap (λ (n : ℕ). Ok (record { start = r.lies.start + q.offset; size = n })) (sym l);
       holds = ap (bytes_at p (r.lies.start + q.offset)) l
           ∙ sym (part_part p r.lies.start (length s) q.offset q.size h)
           ∙ ap (λ (z : List ℕ). bytes_at z q.offset q.size) r.bytes;
     }
+
+cell_is : (ps : List Part) (c : ℕ) (o : Option Contribution) (q : Contribution) (z : Result Place ℕ) → o ≡ Some q → place_in (first_part ps c) q ≡ z → cell_place ps c o ≡ z
+unfolding cell_place
+cell_is ps c o q z e r = rw e r
 
 place_none : (p : List ℕ) (ps : List Part) (c : ℕ) → PlaceOf p (cell_place ps c None) []
 unfolding cell_place
@@ -88,6 +96,21 @@ module _ (b p : List ℕ) (a : Accepted b p) (h : Bytes b) (o : Object) (os : Li
       cell_place_law p (parts_from 8 (sections_of b p a)) c (cell_of index (k + 1) c) d (bytes_at section d.offset d.size)
       (cell_own (version_in a) (rows_in a t) i.slots k c f.column.0 d within f.column.1 e)
       (place_some p (parts_from 8 (sections_of b p a)) c section d (section_there b p a o os q c f.there) f.within)
+
+  -- and where that lies
+  pub place_there : (d : Contribution) → cell ≡ Some d
+      → (s : Part) × (first_part (parts_from 8 (sections_of b p a)) c ≡ Some s)
+      × (cell_place (parts_from 8 (sections_of b p a)) c (cell_of index (k + 1) c) ≡ Ok (record { start = s.start + d.offset; size = d.size }))
+  unfolding encoding_of
+  place_there d e =
+      let f = cell_says k within d e in
+      let r = section_there b p a o os q c f.there in (
+        r.lies,
+        r.is,
+        cell_is (parts_from 8 (sections_of b p a)) c (cell_of index (k + 1) c) d _
+            (cell_own (version_in a) (rows_in a t) i.slots k c f.column.0 d within f.column.1 e)
+            (place_at p (parts_from 8 (sections_of b p a)) c section d r f.within),
+      )
 
   -- of a row that hasn't
   pub place_not : cell ≡ None → PlaceOf p (cell_place (parts_from 8 (sections_of b p a)) c (cell_of index (k + 1) c)) []

@@ -1,6 +1,6 @@
 -- The parts of a kept unit in the package: its own bytes, its contributions, and nothing where it has none.
 use Rattle.std.proofs.Common.{◌≡◌, refl, sym, ap, ◌∙◌, subst, ⊎_elim, true, false, List, [], ◌∷◌, ◌++◌, ℕ, ◌+◌, ◌<◌, ◌≤◌, arith, eqb, leb, length, get_or, take, length-append, eqb-true, eq-eqb, ne_eqb, le-leb, leb-true}
-use Rattle.std.specs.Prelude.{Option, Some, None}
+use Rattle.std.specs.Prelude.{Option, Some, None, Ok}
 use lib.Seq.{get_or-append_seam}
 use borrow.Author.Tests.{eqb-false}
 use Rattle.octets.specs.Octets.{part as bytes_at}
@@ -8,7 +8,7 @@ use Rattle.octets.specs.Lists.{has}
 use Rattle.octets.proofs.Checks.{known}
 use Rattle.octets.proofs.Numbers.{Bytes}
 use Rattle.octets.proofs.Parts.{length_part}
-use Rattle.bundle.specs.Bundle.{Object}
+use Rattle.bundle.specs.Bundle.{Part, Object, first_part}
 use Rattle.bundle.specs.Encoding.{Encoding}
 use Rattle.bundle.proofs.Every.{Every}
 use Rattle.bundle.proofs.RoundTrip.{parts_from}
@@ -26,7 +26,7 @@ use Rattle.package.specs.Filing.{Filed, kept, lengths, contributed}
 use Rattle.package.specs.Pack.{cells, longer, rows_of, section_list, shared_bytes, string_table, unit_bytes}
 use Rattle.package.proofs.Each.{each_middle}
 use Rattle.package.proofs.Filing.{Good, Lies, lengths_in}
-use Rattle.package.proofs.Rows.{row_at, rows_from, behind_all, nothing_before, row_stands, unit_part}
+use Rattle.package.proofs.Rows.{row_at, rows_from, behind_all, behind_at, nothing_before, row_stands, unit_part}
 use Rattle.package.proofs.Shared.{given, given_bytes, Sized, shared_part}
 use Rattle.package.proofs.ByCode.{shared_bytes_law}
 use Rattle.package.proofs.UnitStrings.{part_contributed, none_contributed}
@@ -37,7 +37,7 @@ use Rattle.package.proofs.Tables.{index_of_table, encoding_in, facts_of}
 use Rattle.lookup.specs.Lookup.{cell_place}
 use Rattle.archive.specs.Theorem.{handed_part}
 use Rattle.archive.proofs.Read.{rows_in, version_in}
-use Rattle.archive.proofs.Places.{PlaceOf, place_own, place_not}
+use Rattle.archive.proofs.Places.{PlaceOf, place_own, place_there, place_not}
 use Rattle.archive.proofs.Headers.{Pieced, header_kept, kept_pieced}
 
 -- ---- what is handed in, by cases
@@ -112,6 +112,16 @@ module _ (b p : List ℕ) (a : Accepted b p) (h : Bytes b) (o : Object) (os : Li
       home_bytes (encoding_in b p a h) a.filing a.cu a.tu (facts_of b p a h) u good ∙ ap (λ (l : List Filed). unit_bytes l u.home) stands in
       subst (Lying u.home) (ap (λ (l : List ℕ). bytes_at l at (length u.bytes)) s ∙ unit_part xs u ys)
       (place_own b p a h o os q t i row_of_unit row_within u.home d (row_cell u.home ∙ cell_home u at))
+
+  -- and where they lie
+  pub own_lies : (s : Part) × (first_part (parts_from 8 (sections_of b p a)) u.home ≡ Some s)
+      × (cell_place (parts_from 8 (sections_of b p a)) u.home (cell_of (written (version_in a) (rows_in a t) i.slots) (row_of_unit + 1) u.home)
+      ≡ Ok (record { start = s.start + length (unit_bytes xs u.home); size = length u.bytes }))
+  own_lies =
+      let at = behind_all nothing_before xs u.home in
+      let r = place_there b p a h o os q t i row_of_unit row_within u.home (record { offset = at; size = length u.bytes }) (row_cell u.home ∙ cell_home u at) in
+      let long : at ≡ length (unit_bytes xs u.home) = behind_at nothing_before xs u.home ∙ omega arith in
+      (r.0, r.1, r.2 ∙ ap (λ (n : ℕ). Ok (record { start = r.0.start + n; size = length u.bytes })) long)
 
   -- a contribution
   pub shared_place : (c : ℕ) (d : Contribution) → (c ≡ u.home → ⊥) → u.contributions c ≡ Some d → Lying c (bytes_at (given strings c u.input) d.offset d.size)

@@ -1,9 +1,12 @@
 -- Every clause of the theorem, used.
-use Rattle.std.proofs.Common.{◌≡◌, refl, sym, ap, ◌∙◌, subst, ◌⊎◌, inl, inr, List, [], ◌∷◌, ℕ, ◌≤◌, arith, length}
-use Rattle.std.specs.Prelude.{Some}
+use Rattle.std.proofs.Common.{◌≡◌, refl, sym, ap, ◌∙◌, subst, ◌⊎◌, inl, inr, List, [], ◌∷◌, ℕ, ◌+◌, ◌≤◌, arith, length}
+use Rattle.std.specs.Prelude.{Option, Some, None}
 use native.Mathlib.Decide.{ℕ_discrete}
 use Rattle.octets.specs.Octets.{part as bytes_at}
 use Rattle.octets.proofs.Checks.{pass_inj}
+use Rattle.bundle.specs.Bundle.{Part}
+use Rattle.package.specs.Filing.{kept}
+use Rattle.package.specs.Pack.{unit_bytes}
 use Rattle.lookup.specs.Lookup.{absent, part, looked_up, string_found}
 use Rattle.archive.specs.Contributing.{Contributes, ByRow}
 use Rattle.archive.specs.StrSection.{pieces, str_in}
@@ -25,23 +28,23 @@ asked t h g = record { version = computed.version_five; tables = one_or_two t h 
 code : (n : ℕ) → 1 ≤ n → n ≤ 10 → IsCode n
 code n h g = record { from = h; to = g }
 
-compilation_first : IsFirst bundle 1 1 compilation
+abbrev compilation_first : IsFirst bundle 1 1 compilation
 compilation_first = record { before = []; behind = first_type ∷ same_type ∷ []; stands = computed.handed; under = computed.under_one; none_before = computed.none_before }
 
-type_first : IsFirst bundle 2 7 first_type
+abbrev type_first : IsFirst bundle 2 7 first_type
 type_first = record { before = compilation ∷ []; behind = same_type ∷ []; stands = computed.handed; under = computed.under_seven; none_before = computed.other_before }
 
-contributes : Contributes compilation
+contributes : Contributes [] compilation
 contributes = r.what_it_contributes 1 1 compilation compilation_first
 
 some_abbrev : its_object.bytes 3 ≡ [] → ⊥
 some_abbrev e = omega (arith, ap length (sym computed.abbrev_bytes ∙ e))
 
 -- ---- by a row
-row_first : IsFirst four 1 1 row_unit
+abbrev row_first : IsFirst four 1 1 row_unit
 row_first = record { before = []; behind = []; stands = computed.four_handed; under = computed.row_under; none_before = computed.none_before }
 
-by_row : ByRow row_unit its_index
+by_row : ByRow [] row_unit its_index
 by_row = ((from_bundle_to_answer four 600 120 four (are_bytes four computed.four_small) computed.four_packs).what_it_contributes 1 1 row_unit row_first).by_row its_index computed.row_index
 
 by_a_row_law : ByARow
@@ -50,6 +53,17 @@ by_a_row_law = record {
   one_row = (by_row.place, by_row.row, by_row.alone computed.row_place, by_row.ends);
   its_cell = (by_row.row, by_row.cells 3 (record { from = omega arith; to = omega arith }) (λ e. omega (arith, computed.row_abbrev, ap length e)));
 }
+
+-- the type unit lies behind the compilation unit, in the section that starts at byte 12
+abbrev start_in : Option Part → ℕ
+start_in (Some s) = s.start
+start_in None = 0
+
+behind_the_first : looked_up whole_package 5 2 7 1 ≡ part 32 24 1
+behind_the_first =
+    let e = r.its_own_place 5 2 7 first_type (asked 2 (omega arith) (omega arith)) type_first in
+    let at : e.0.start + length (unit_bytes (kept (compilation ∷ [])) 1) ≡ 32 = omega (arith, ap start_in (sym e.1 ∙ computed.info_at), computed.before_type) in
+    e.2 ∙ ap (λ (n : ℕ). part n (length first_type.bytes) (looks bundle 2 7)) at ∙ ap (λ (n : ℕ). part 32 n (looks bundle 2 7)) computed.type_long ∙ ap (part 32 24) computed.looks_seven
 
 pub used : EveryClauseUsed
 used = record {
@@ -74,6 +88,7 @@ used = record {
   in_length =
       (let e = r.the_first_unit_in_length 5 1 1 compilation (asked 1 (omega arith) (omega arith)) compilation_first in
       (e.0, e.1 ∙ ap (λ (n : ℕ). part e.0 n (looks bundle 1 1)) computed.part_six ∙ ap (part e.0 16) computed.looks_one, subst (λ (s : List ℕ). bytes_at whole_package e.0 (length s) ≡ s) computed.its_header e.2));
+  its_place = behind_the_first;
   its_string =
       (let e = r.its_strings 5 1 1 0 compilation (asked 1 (omega arith) (omega arith)) compilation_first (omega (arith, computed.two_entries)) in
       let b : e.0 ≡ 98 ∷ [] = pass_inj (sym e.1 ∙ computed.string_b) in

@@ -3,7 +3,7 @@ use Rattle.std.specs.Prelude.{◌≡◌, List, ℕ}
 use Rattle.package.specs.Pack.{packed, made}
 use Rattle.archive.specs.Looks.{FindingTakes, AbsenceTakes}
 use Rattle.archive.specs.NothingLost.{KeptOrSkippedType, KeptUnitsJoined, SharedSectionsWhole, StrOffsetsInLength, OneOfTheOthers}
-use Rattle.archive.specs.Theorem.{AreBytes, EveryUnitIsHandedIn, EachIsAUnit, WhatItContributes, ThePackagesTables, FoundExactlyWhenHandedIn, TheFirstUnit, TheFirstUnitInLength, ItsStrings, NoOtherString, AbsentIsAbsent, AbsentEnds, LooksAtMostSlots, UnitsCounted, EveryStringReached, EachStringOnce, FirstUsesAndNoOther, TheOtherVersion, NoSuchVersion, NeitherRefuses}
+use Rattle.archive.specs.Theorem.{AreBytes, EveryUnitIsHandedIn, EachIsAUnit, WhatItContributes, ThePackagesTables, FoundExactlyWhenHandedIn, TheFirstUnit, TheFirstUnitInLength, ItsOwnPlace, ItsStrings, NoOtherString, AbsentIsAbsent, AbsentEnds, LooksAtMostSlots, UnitsCounted, EveryStringReached, EachStringOnce, FirstUsesAndNoOther, TheOtherVersion, NoSuchVersion, NeitherRefuses}
 
 abbrev pub AllOf : List ℕ → List ℕ → Type 0
 AllOf b p =
@@ -19,6 +19,7 @@ AllOf b p =
     × FoundExactlyWhenHandedIn b p
     × TheFirstUnit b p
     × TheFirstUnitInLength b p
+    × ItsOwnPlace b p
     × ItsStrings b p
     × NoOtherString b p
     × AbsentIsAbsent b p

@@ -151,7 +151,7 @@ pub record EveryFileClauseUsed : Type 0 where
   pub a_unit : IsUnit other_bytes
   pub comes_again : (any (is_under 2 7) (first_unit ∷ second_unit ∷ type_unit ∷ repeated ∷ []) ≡ false) ⊎ ComesAgain (first_unit ∷ second_unit ∷ type_unit ∷ repeated ∷ []) other_bytes
   pub counted : ◌≡◌ {A = ℕ} 5 (3 + (1 + 1))
-  pub contributes : Contributes type_unit
+  pub contributes : Contributes (first_unit ∷ second_unit ∷ []) type_unit
   pub its_bytes : Holding their_package (looked_up their_package 5 2 7 1) (bytes_at all_joined 136 24)
   pub in_length : (start : ℕ) × (looks : ℕ) × (looked_up their_package 5 1 2 6 ≡ part start 16 looks) × (bytes_at their_package start 8 ≡ 0xC ∷ 0 ∷ 0 ∷ 0 ∷ 5 ∷ 0 ∷ 0 ∷ 0 ∷ [])
   pub its_string : Holding their_package (string_found their_package 5 1 2 0) (98 ∷ [])

@@ -49,7 +49,7 @@ pub record HandedIn (fs : List (List ℕ)) (us : List Filed) : Type 0 where
   -- those that come again are counted: as repeats in the bytes of the first, as namesakes in others
   pub counted : length us ≡ length (kept us) + (count_of repeat us + count_of namesake us)
   -- what a first one contributes of its object's sections, of which its parts are made
-  pub what_it_contributes : (table x : ℕ) (u : Filed) → FirstOf us table x u → Contributes u
+  pub what_it_contributes : (table x : ℕ) (u : Filed) → (first : FirstOf us table x u) → Contributes first.before u
 
 -- ---- what is asked
 -- the index version that belongs to the objects: 5 to version 5, else 2, and both to no objects

@@ -6,12 +6,12 @@ use Rattle.numbers.specs.Sections.{str_offsets_code, str_code, first_shared, las
 use Rattle.numbers.specs.Refusals.{no_string, other_version, no_entry}
 use Rattle.octets.specs.Octets.{part as bytes_at}
 use Rattle.octets.specs.Lists.{any, those}
-use Rattle.bundle.specs.Bundle.{Object, Bundle, bundle_of}
+use Rattle.bundle.specs.Bundle.{Part, Object, Bundle, bundle_of, first_part}
 use Rattle.strings.specs.Strings.{header_size, string_at, ended, first_uses}
 use Rattle.index.specs.Index.{Index}
 use Rattle.index.specs.Probing.{Probe, found, absent as nowhere, Slots, slots_of, search, first_slot, stride}
 use Rattle.package.specs.Filing.{Filed, is_under, first_word, kept, contributed, entries_of_unit}
-use Rattle.package.specs.Pack.{packed, made, handed_in}
+use Rattle.package.specs.Pack.{packed, made, handed_in, unit_bytes}
 use Rattle.package.specs.Units.{FillObjects, IsUnit}
 use Rattle.lookup.specs.Lookup.{Found, refused, absent, part, Package, package_of, index_for, looked_up, string_found}
 use Rattle.archive.specs.Contributing.{Contributes}
@@ -127,7 +127,7 @@ ThePackagesTables b p = (table : ℕ) → (table ≡ compilation_table) ⊎ (tab
 
 -- what the first unit under an identity contributes, of which its parts are made: by a row of its object's index for its table, or its object's whole sections
 abbrev pub WhatItContributes : List ℕ → Type 0
-WhatItContributes b = (table x : ℕ) (u : Filed) → IsFirst b table x u → Contributes u
+WhatItContributes b = (table x : ℕ) (u : Filed) → (first : IsFirst b table x u) → Contributes first.before u
 
 -- an identity is found in a table exactly when a unit was handed in for that table under it
 abbrev pub FoundExactlyWhenHandedIn : List ℕ → List ℕ → Type 0
@@ -145,6 +145,17 @@ TheFirstUnitInLength b p =
     (v table x : ℕ) (u : Filed) → Asked b v table → IsFirst b table x u
     → (start : ℕ) × (looked_up p v table x str_offsets_code ≡ part start (length (handed_part u str_offsets_code)) (looks b table x))
     × (bytes_at p start (length (header_of u)) ≡ header_of u)
+
+-- the package's section of a code, by where it lies
+unfoldable pub section_at : List ℕ → ℕ → Option Part
+section_at p code = elim (package_of p) [ Ok k ↦ first_part k.parts code | Err n ↦ None ]
+
+-- its own bytes lie in the section of their code behind those of the units kept before it that stood in one of that code, and behind nothing else
+abbrev pub ItsOwnPlace : List ℕ → List ℕ → Type 0
+ItsOwnPlace b p =
+    (v table x : ℕ) (u : Filed) → Asked b v table → (first : IsFirst b table x u)
+    → (section : Part) × (section_at p u.home ≡ Some section)
+    × (looked_up p v table x u.home ≡ part (section.start + length (unit_bytes (kept first.before) u.home)) (length u.bytes) (looks b table x))
 
 -- string k is the one that entry k of the unit's part named in its own object. In version 5 a header is in that part, and entry 0 follows it
 abbrev pub ItsStrings : List ℕ → List ℕ → Type 0
@@ -229,6 +240,7 @@ pub record AnswersAsHandedIn (b p : List ℕ) : Type 0 where
   pub found_exactly_when_handed_in : FoundExactlyWhenHandedIn b p
   pub the_first_unit : TheFirstUnit b p
   pub the_first_unit_in_length : TheFirstUnitInLength b p
+  pub its_own_place : ItsOwnPlace b p
   pub its_strings : ItsStrings b p
   pub no_other_string : NoOtherString b p
   pub absent_is_absent : AbsentIsAbsent b p

@@ -116,7 +116,7 @@ row_unit = record {
 }
 
 pub record ByARow : Type 0 where
-  pub by_row : ByRow row_unit its_index
+  pub by_row : ByRow [] row_unit its_index
   pub one_row : (place : ℕ) × (row : ℕ) × (the_one (naming its_index place (length row_unit.bytes)) ≡ Ok row) × (row_of its_index (probe its_index 1) ≡ Ok row)
   pub its_cell : (row : ℕ) × CellOf row_unit its_index row 3
 
@@ -137,6 +137,7 @@ pub record EveryClauseUsed : Type 0 where
   pub is_found : IsPart (looked_up whole_package 5 1 1 3) 1
   pub its_bytes : Holds whole_package (looked_up whole_package 5 2 7 1) 1 (bytes_at bundle 32 24)
   pub in_length : (start : ℕ) × (looked_up whole_package 5 1 1 6 ≡ part start 16 1) × (bytes_at whole_package start 8 ≡ 0xC ∷ 0 ∷ 0 ∷ 0 ∷ 5 ∷ 0 ∷ 0 ∷ 0 ∷ [])
+  pub its_place : looked_up whole_package 5 2 7 1 ≡ part 32 24 1
   pub its_string : Holds whole_package (string_found whole_package 5 1 1 0) 1 (98 ∷ [])
   pub no_third_string : string_found whole_package 5 1 1 2 ≡ refused no_entry
   pub is_absent : (looked_up whole_package 5 1 9 3 ≡ absent 2) × (string_found whole_package 5 1 9 0 ≡ absent 2)
