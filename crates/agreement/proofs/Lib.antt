@@ -3,3 +3,4 @@ pub mod Tables
 pub mod Memories
 pub mod Strings
 pub mod Faults
+pub mod Examples
