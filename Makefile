@@ -58,6 +58,7 @@ test:
 	test -n "$$end" || { echo "rt ci does not end with 'N passed, 0 failed'" >&2; exit 1; }; \
 	tools/laws-proved "$$out" || exit 1; \
 	tools/believed || exit 1; \
+	tools/count-words --hold || exit 1; \
 	rm -rf target/staticlib || exit 1; \
 	$(MAKE) --no-print-directory host || exit 1; \
 	echo "crates, edits and programs of rt ci:"; \

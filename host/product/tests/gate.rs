@@ -98,7 +98,9 @@ fn laid_out(name: &str) -> Home {
         fs::copy(format!("{ROOT}/{laws}"), home.join(&laws)).unwrap();
     }
     // What the laws need is looked up in all sources, which are not here.
-    for (tool, script) in [("rt", CHECKER), ("cargo", CARGO), ("believed", "#!/bin/sh\ntest ! -e list-lacks\n")] {
+    let lacks = ("believed", "#!/bin/sh\ntest ! -e list-lacks\n");
+    let older = ("count-words", "#!/bin/sh\ntest ! -e words-older\n");
+    for (tool, script) in [("rt", CHECKER), ("cargo", CARGO), lacks, older] {
         fs::write(home.join("tools").join(tool), script).unwrap();
         fs::set_permissions(home.join("tools").join(tool), Permissions::from_mode(0o755)).unwrap();
     }
@@ -118,7 +120,7 @@ fn the_gates_end_counts_the_tests_of_the_host_too() {
     assert!(
         home.join("checked").exists() && told.find("41 passed").unwrap() < told.find("proving the packer").unwrap()
     );
-    for failing in ["cargo-fails", "checker-fails", "library-fails", "list-lacks"] {
+    for failing in ["cargo-fails", "checker-fails", "library-fails", "list-lacks", "words-older"] {
         fs::write(home.join(failing), "").unwrap();
         let output = make(&home, "test");
         assert!(status(&output) != 0 && !text(&output).contains("tests of the host: "), "{failing}");
