@@ -19,3 +19,4 @@ pub mod Verified
 pub mod Compared
 pub mod FromFiles
 pub mod FilesUsed
+pub mod Carrying

@@ -4,6 +4,7 @@
 #![tactic(auto)]
 
 pub mod asking;
+pub mod carrying;
 pub mod files;
 pub mod laws;
 pub mod many;

@@ -6,6 +6,7 @@
 mod abbreviations;
 mod bundle;
 mod bytes;
+mod carried;
 mod index;
 mod leb128;
 mod lookup;
@@ -15,8 +16,9 @@ mod unit;
 
 /// The kinds of answers are the product's, so that they can be compared.
 pub use barthovin::answer::Found;
-pub use bundle::{Bundle, Encoding, Object, Section};
+pub use bundle::{write as write_bundle, Bundle, Encoding, Object, Section};
 pub use bytes::{number, put};
+pub use carried::{left, Left};
 pub use index::{column_codes, place, slot_count, Index, Probe};
 pub use lookup::{lookup, lookup_string};
 pub use pack::{pack, pack_counted, work_for, Packed, Skipped, LONGEST_BUNDLE, WORK_FOR_A_WORD};

@@ -6,7 +6,7 @@ use crate::elf::Class;
 use crate::generate::{call, elf as generate_elf, sized, Random, HOSTILE, KINDS, SHORT};
 use crate::reference::{Bundle, WORK_FOR_A_WORD};
 use barthovin::answer::Asked;
-use barthovin::{batch, elf, ffi, join, profile, sheet, verifying};
+use barthovin::{batch, carrying, elf, ffi, join, profile, sheet, verifying};
 use std::thread;
 
 const STACK: usize = 1 << 20;
@@ -114,7 +114,16 @@ impl Measured<'_> {
         });
         output.truncate(length);
         self.verifying(&mut work, &mut other, &output);
+        self.carrying(&mut work);
         output
+    }
+
+    /// What packing does not carry of it.
+    fn carrying(&mut self, work: &mut [u32]) {
+        let bundle = self.bundle;
+        self.note("barthovin_carried", || {
+            carrying::carried(bundle, work);
+        });
     }
 
     /// The bundle's own package, and such as it isn't: where one byte differs, each unit is asked for up to it.

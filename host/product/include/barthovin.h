@@ -203,6 +203,25 @@ struct barthovin_verified barthovin_verify(const uint8_t *bundle, size_t bundle_
                                            size_t work_length, uint8_t *output, size_t output_length,
                                            const uint8_t *package, size_t package_length, uint32_t version);
 
+/* What packing does not carry. Code 0: it carries all that a reader could ask for, and the rest is 0. 47: in str, section 11, a string starts
+ * at the place that no entry of str_offsets names. 48: in abbrev, section 3, an attribute stands at the place whose form packing does not
+ * carry; form is that form. Any other code is the one by which packing refuses what can't be read at the place; section 0 is none: the
+ * object, or the bundle. Objects are counted from 0, and places in the object's section. */
+struct barthovin_carried_answer {
+    uint32_t code;
+    uint32_t section;
+    size_t object;
+    size_t place;
+    uint64_t form;
+};
+
+/* Whether packing carries all of a bundle that a reader could ask for: the strings of each str, and whatever the abbreviation tables of its
+ * units name. Macro and line sections are not asked. 47: a string that no entry names. 48: a form that counts from the front of a section
+ * which packing joins, or which isn't there, or one that a table doesn't show (hexadecimal 0E, 10, 16, 1C, 1D, 1F, 24, 1F20, 1F21). Else
+ * the code is packing's: 1 to 8, 10 to 13, 15 or 16. Work is lent as for packing, and is zeros after every answer. */
+struct barthovin_carried_answer barthovin_carried(const uint8_t *bundle, size_t bundle_length, uint32_t *work,
+                                                  size_t work_length);
+
 /* Whether a package is in the archive profile: 0 yes, 1 no, 21 for a bad package. */
 uint32_t barthovin_archive_profile(const uint8_t *package, size_t package_length);
 

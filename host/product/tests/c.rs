@@ -4,7 +4,7 @@ use barthovin::answer::{Asked, Found};
 use barthovin::batch::answer_words;
 use barthovin::ffi::{self, Skipped};
 use barthovin::profile::{conditions, profile};
-use barthovin::verifying;
+use barthovin::{carrying, verifying};
 use std::path::{Path, PathBuf};
 use std::process::{Command, Output};
 
@@ -176,7 +176,26 @@ fn by_rust() -> String {
     told += &format!("open {code} {length}\n");
     let (code, length) = barthovin::join::open(&bundle, &mut page);
     told += &format!("open {code} {length}\n");
+    told += &carried_by_rust(&bundle);
     told + &format!("conditions {}\n", conditions(&bundle).1)
+}
+
+/// What is not carried of the bundle as it is, with an entry inside its string, with a table that is cut off as well, and with that alone; and with too little work.
+fn carried_by_rust(bundle: &[u8]) -> String {
+    let (mut work, mut other) = (vec![0; 20 * 17], bundle.to_vec());
+    let mut told = String::new();
+    let mut tell = |bundle: &[u8], words: usize| {
+        let c = carrying::carried(bundle, &mut work[..words]);
+        told += &format!("carried {} {} {} {} {}\n", c.code, c.section, c.object, c.place, c.form);
+    };
+    tell(bundle, 20 * 17);
+    for (entry, code) in [(1, 0), (1, 1), (0, 1)] {
+        (other[52], other[36]) = (entry, code);
+        tell(&other, 20 * 17);
+    }
+    tell(&other, 16);
+    assert_eq!(told, "carried 0 0 0 0 0\ncarried 47 11 0 0 0\ncarried 47 11 0 0 0\ncarried 12 3 0 0 0\ncarried 2 0 0 0 0\n");
+    told
 }
 
 /// Its package verified: as it is, with another string, and where the bundle's package has no room.

@@ -47,6 +47,11 @@ static void show_verified(struct barthovin_verified v) {
            (unsigned long long)v.identity, (unsigned long long)v.entry, v.length);
 }
 
+static void show_carried(struct barthovin_carried_answer a) {
+    printf("carried %u %u %zu %zu %llu\n", (unsigned)a.code, (unsigned)a.section, a.object, a.place,
+           (unsigned long long)a.form);
+}
+
 int main(void) {
     static uint8_t packed_again[1000];
     static uint8_t page[121];
@@ -100,6 +105,18 @@ int main(void) {
     printf("open %u %zu\n", (unsigned)joined.code, joined.length);
     joined = barthovin_open(bundle, sizeof words, page, sizeof page);
     printf("open %u %zu\n", (unsigned)joined.code, joined.length);
+    /* As it is; with an entry inside its string; with a table that is cut off as well, and which strings come before; and with that alone. */
+    show_carried(barthovin_carried(bundle, sizeof words, work, 20 * 17));
+    for (size_t i = 0; i < sizeof words; i++) {
+        output[i] = bundle[i];
+    }
+    output[52] = 1;
+    show_carried(barthovin_carried(output, sizeof words, work, 20 * 17));
+    output[36] = 1;
+    show_carried(barthovin_carried(output, sizeof words, work, 20 * 17));
+    output[52] = 0;
+    show_carried(barthovin_carried(output, sizeof words, work, 20 * 17));
+    show_carried(barthovin_carried(output, sizeof words, work, 16));
     printf("conditions %u\n", (unsigned)barthovin_archive_profile_conditions(bundle, sizeof words).failed);
     return 0;
 }

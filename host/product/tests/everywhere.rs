@@ -91,11 +91,13 @@ fn refusals() {
     let defined = read("crates/numbers/specs/Refusals.antt");
     let number = |line: &str| line.split_once(" = ")?.1.trim().parse().ok();
     let mut defined: BTreeSet<u32> = defined.lines().filter_map(number).collect();
-    // Two are defined where they are used.
-    let used = read("crates/join/specs/Join.antt") + &read("crates/archive/specs/Verified.antt");
-    let is_one = |line: &&str| line.starts_with("other_order = ") || line.starts_with("not_verified = ");
+    // Four are defined where they are used.
+    let used = ["join/specs/Join.antt", "archive/specs/Verified.antt", "carried/specs/Fault.antt"];
+    let used = used.map(|name| read(&format!("crates/{name}"))).concat();
+    let names = ["other_order = ", "not_verified = ", "not_named = ", "not_carried = "];
+    let is_one = |line: &&str| names.iter().any(|name| line.starts_with(name));
     defined.extend(used.lines().filter(is_one).filter_map(number));
-    assert_eq!(known, defined, "those of meaning.rs, and those of Refusals.antt, Join.antt and Verified.antt");
+    assert_eq!(known, defined, "those of meaning.rs, and those of Refusals.antt, Join.antt, Verified.antt and Fault.antt");
     let format = read("docs/FORMAT.md");
     let tables = between(&format, "\n## 13 ", "\n## ");
     assert_eq!(known, rows(tables), "those of meaning.rs, and those of FORMAT.md");
@@ -116,6 +118,7 @@ fn refusals_of_an_entry() {
         ("### 13.8 ", "barthovin_join"),
         ("### 13.9 ", "barthovin_open"),
         ("### 13.10 ", "barthovin_verify"),
+        ("### 13.11 ", "barthovin_carried"),
     ];
     for (section, entry) in entries {
         let wanted = rows(between(&format, section, "\n##"));

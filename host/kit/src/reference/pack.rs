@@ -71,7 +71,7 @@ fn package_of(bytes: &[u8], work_words: usize) -> Result<(Vec<u8>, Skipped), u32
 }
 
 /// 4 to 7.
-fn judge_object(bundle: &Bundle, object: &Object, encoding: Encoding) -> Result<(), u32> {
+pub(super) fn judge_object(bundle: &Bundle, object: &Object, encoding: Encoding) -> Result<(), u32> {
     if !encoding.is_known() {
         return Err(4);
     }
@@ -108,11 +108,11 @@ fn is_package_of_five(object: &Object, encoding: Encoding) -> bool {
 }
 
 /// One input object while its units are filed.
-struct Input<'o, 'a> {
-    object: &'o Object<'a>,
-    encoding: Encoding,
-    cu_index: Option<Index>,
-    tu_index: Option<Index>,
+pub(super) struct Input<'o, 'a> {
+    pub(super) object: &'o Object<'a>,
+    pub(super) encoding: Encoding,
+    pub(super) cu_index: Option<Index>,
+    pub(super) tu_index: Option<Index>,
 }
 
 impl<'a> Input<'_, 'a> {
@@ -136,7 +136,7 @@ impl<'a> Input<'_, 'a> {
     }
 
     /// The abbreviations of a version 4 compilation unit: its object's, or with cu_index those of the row that names its place (15, 16).
-    fn abbrev(&self, at: usize, size: usize) -> Result<&'a [u8], u32> {
+    pub(super) fn abbrev(&self, at: usize, size: usize) -> Result<&'a [u8], u32> {
         let whole = self.object.bytes(ABBREV);
         let Some(index) = &self.cu_index else { return Ok(whole) };
         let row = index.row_at(INFO, at, size).ok_or(15u32)?;
@@ -148,7 +148,7 @@ impl<'a> Input<'_, 'a> {
     }
 
     /// The parts that a kept unit at `at` of a section has of the shared sections (15, 16).
-    fn contributions(&self, section: u32, at: usize, unit: &Unit) -> Result<Vec<(u32, u64, u64)>, u32> {
+    pub(super) fn contributions(&self, section: u32, at: usize, unit: &Unit) -> Result<Vec<(u32, u64, u64)>, u32> {
         let object = self.object;
         let shared: Vec<u32> = SHARED.filter(|code| !object.bytes(*code).is_empty()).collect();
         let index = match unit.table {
@@ -301,7 +301,7 @@ impl<'a> InProgress<'a> {
 }
 
 /// 10, for one of the indexes; only the form of the object's version is taken.
-fn load_index(object: &Object, code: u32, encoding: Encoding) -> Result<Option<Index>, u32> {
+pub(super) fn load_index(object: &Object, code: u32, encoding: Encoding) -> Result<Option<Index>, u32> {
     let Some(section) = object.section(code) else { return Ok(None) };
     let index = Index::read(section.bytes, encoding.big).filter(|i| (i.version == 5) == (encoding.version == 5));
     index.map(Some).ok_or(10)

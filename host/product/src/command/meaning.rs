@@ -37,6 +37,8 @@ pub fn meaning(number: u32) -> &'static str {
         38 => "the questions are ill-formed or more than 1,024, or the answers don't fit",
         45 => "the file's byte order is not that of the bundle",
         46 => "the package answers otherwise than the bundle's own",
+        47 => "a string that no entry of str_offsets names is not carried",
+        48 => "a value of this form is not carried",
         _ => "an unknown refusal",
     }
 }

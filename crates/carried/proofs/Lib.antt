@@ -1,0 +1,10 @@
+pub mod Meeting
+pub mod Ending
+pub mod Pieces
+pub mod OverUnits
+pub mod Marking
+pub mod InSections
+pub mod InObjects
+pub mod Whole
+pub mod Examples
+pub mod AllLaws
