@@ -1,7 +1,6 @@
 -- Files joined and opened, as the checker computes them.
 use Rattle.std.proofs.Common.{◌≡◌, refl, List, [], ◌∷◌, ◌++◌, ℕ}
 use Rattle.octets.specs.Octets.{part, little, number, number_at, little_of, bytes_of, numbers_of, zeros, padded}
-use Rattle.octets.specs.Lists.{joined as concat, all, those}
 use Rattle.std.specs.Prelude.{Ok, Err}
 use Rattle.octets.specs.Checked.{◌>>=◌, require, renumbered}
 use Rattle.answers.specs.Answers.{refused, short, made, answered}
@@ -11,7 +10,7 @@ use Rattle.bundle.specs.Written.{word_bytes, end_bytes}
 use Rattle.bundle.proofs.Examples.{words}
 use Rattle.lookup.specs.Lookup.{codes, package_index, object_judged, objects_judged, package_of}
 use Rattle.join.specs.Open.{words_of, made_package, judged, opened}
-use Rattle.join.specs.Laws.{joined_all, section_in, object_in, objects_read, objects_in, file_objects, all_objects}
+use Rattle.join.specs.Laws.{joined_all, after_call, joined_in, section_in, object_in, objects_read, objects_in, file_objects, all_objects}
 use Rattle.join.specs.Join.{elf_bundle, as_it_is, as_bundle, file_bundle, framed, contents, behind, joined_with, joined_behind, joined, joining, memory_after, starts_elf}
 
 -- a bundle of one object with one section, one of another object, and both joined
@@ -79,10 +78,14 @@ Together =
     × (all_objects (first ∷ second ∷ [])
     ≡ record { word = 0x1008_0405; sections = record { code = 1; bytes = 0x11 ∷ [] } ∷ [] } ∷ record { word = 0x1008_0404; sections = record { code = 3; bytes = 0x11 ∷ 0x22 ∷ [] } ∷ [] } ∷ [])
     × (joined_all [] (first ∷ other ∷ second ∷ []) ≡ Err 45)
+    -- call by call, in memory that held other bytes; without room for the second; and ended by a refusal
+    × (joined_in (first ∷ second ∷ []) (first ++ first) 0 ≡ made both)
+    × (joined_in (first ∷ second ∷ []) first 0 ≡ short 32)
+    × (joined_in (first ∷ other ∷ second ∷ []) (first ++ first) 0 ≡ refused 45)
 
 pub together : Together
-unfolding elf_bundle part little number number_at little_of bytes_of numbers_of zeros ◌>>=◌ require filled_up object_step section_step end_step step_of step_at followed items_from items leading objects_of object_first bundle_of word_bytes end_bytes as_it_is as_bundle file_bundle framed contents behind starts_elf joined_with joined_behind joined joined_all section_in object_in objects_read objects_in file_objects all_objects
-together = (refl, refl, refl)
+unfolding elf_bundle part little number number_at little_of bytes_of numbers_of zeros ◌>>=◌ require filled_up object_step section_step end_step step_of step_at followed items_from items leading objects_of object_first bundle_of word_bytes end_bytes as_it_is as_bundle file_bundle framed contents behind starts_elf joined_with joined_behind joined joined_all section_in object_in objects_read objects_in file_objects all_objects padded joining memory_after after_call joined_in answered
+together = (refl, refl, refl, refl, refl, refl)
 
 -- files opened as packages
 abbrev pub Opens : Type 0

@@ -2,6 +2,7 @@
 pub mod Canonical
 pub mod Bundles
 pub mod Joined
+pub mod Calls
 pub mod Memory
 pub mod Answers
 pub mod Opened

@@ -1,10 +1,11 @@
 -- What is joined of files holds exactly their objects, in the files' order.
-use Rattle.std.specs.Prelude.{◌≡◌, Bool, List, [], ◌∷◌, ◌++◌, map, ℕ, ◌<◌, slice_index, Result, Ok, Err}
+use Rattle.std.specs.Prelude.{◌≡◌, Bool, List, [], ◌∷◌, ◌++◌, map, ℕ, ◌<◌, length, take, slice_index, Result, Ok, Err}
 use Rattle.octets.specs.Checked.{◌>>=◌}
 use Rattle.octets.specs.Octets.{part}
 use Rattle.bundle.specs.Bundle.{Part, Object, Bundle, bundle_of}
 use Rattle.bundle.specs.Written.{Section, Sections}
-use Rattle.join.specs.Join.{file_bundle, joined}
+use Rattle.answers.specs.Answers.{Answer, refused, short, made}
+use Rattle.join.specs.Join.{file_bundle, joined, joining, memory_after}
 
 -- files joined one after the other behind a bundle
 unfoldable pub joined_all : List ℕ → List (List ℕ) → Result (List ℕ) ℕ
@@ -64,3 +65,19 @@ pub record HoldsAll (b : List ℕ) (fs : List (List ℕ)) : Type 0 where
 abbrev pub JoinedHolds : Type 0
 JoinedHolds =
     (f : List ℕ) (fs : List (List ℕ)) (b : List ℕ) → AllBytes (f ∷ fs) → joined_all [] (f ∷ fs) ≡ Ok b → HoldsAll b (f ∷ fs)
+
+-- ---- call by call
+-- what a next call does with the memory that a call leaves; a refusal ends the calls
+unfoldable pub after_call : (List ℕ → ℕ → Answer) → Answer → List ℕ → ℕ → Answer
+after_call next (made b) m n = next (memory_after (made b) m n) (length b)
+after_call next (short k) m n = short k
+after_call next (refused k) m n = refused k
+
+-- a call for each file, in lent memory of which the first n bytes are the bundle joined so far
+unfoldable pub joined_in : List (List ℕ) → List ℕ → ℕ → Answer
+joined_in [] m n = made (take n m)
+joined_in (f ∷ fs) m n = after_call (joined_in fs) (joining m n f) m n
+
+-- what the calls make, from the first file on, is what is joined of the files
+abbrev pub CallsJoin : Type 0
+CallsJoin = (f : List ℕ) (fs : List (List ℕ)) (m b : List ℕ) → joined_in (f ∷ fs) m 0 ≡ made b → joined_all [] (f ∷ fs) ≡ Ok b
