@@ -42,11 +42,14 @@ impl From<Result<(), Uncarried>> for CarriedAnswer {
     }
 }
 
-// Work is lent as for packing, and is zeros after every answer.
+// Work is lent as for packing, and is zeros after every answer. Packing a bundle of no bytes refuses by 1 and clears it, page by page, with no store to a page that
+// is zero already.
 #[unsafe(no_mangle)]
 pub extern "C" fn barthovin_carried(bundle: &[u8], work: &mut [u32]) -> CarriedAnswer
     ensures answer { result ≡ told_as (carried bundle.now (length work.old)) }
     ensures work { work.new ≡ zeros (length work.old) }
 {
-    CarriedAnswer::from(carried::look(bundle, work))
+    let answer = CarriedAnswer::from(carried::look(bundle, work));
+    let _ = packer::pack(&[], work, &mut []);
+    answer
 }

@@ -9,7 +9,6 @@ pub mod tables;
 pub mod units;
 
 ghost use Rattle.std.specs.Prelude.{◌≡◌, length};
-ghost use Rattle.octets.specs.Octets.{zeros};
 ghost use Rattle.octets.specs.Checked.{mapped};
 ghost use Rattle.numbers.specs.Refused.{told};
 ghost use Rattle.carried.specs.Carried.{bundle_checked, carried};
@@ -39,8 +38,8 @@ fn check_bundle(b: &[u8], words: usize) -> Result<bool, Refusal>
     bundle::check_words(b)
 }
 
-// Work is left as it is then.
-fn look_bundle(b: &[u8], work: &mut [u32]) -> Result<(), Uncarried>
+// Whatever the two hold. Work is left as it is then: who lends it has it cleared.
+pub fn look(b: &[u8], work: &mut [u32]) -> Result<(), Uncarried>
     ensures { result ≡ carried b.now (length work.old) }
 {
     match check_bundle(b, work.len()) {
@@ -50,15 +49,4 @@ fn look_bundle(b: &[u8], work: &mut [u32]) -> Result<(), Uncarried>
             fault: unread(refusal, 0, 0),
         }),
     }
-}
-
-// Whatever the two hold; work is zeros afterwards.
-#[tactic(auto, unfolding(octets::specs::Octets::zeros))]
-pub fn look(b: &[u8], work: &mut [u32]) -> Result<(), Uncarried>
-    ensures answer { result ≡ carried b.now (length work.old) }
-    ensures work { work.new ≡ zeros (length work.old) }
-{
-    let answer = look_bundle(b, work);
-    work.fill(0);
-    answer
 }

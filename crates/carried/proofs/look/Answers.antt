@@ -1,9 +1,9 @@
--- `look_bundle` meets its contract.
+-- `look` meets its contract.
 use Rattle.std.proofs.Common.{sym, ap, ◌∙◌, Err}
 use Rattle.carried.specs.Carried.{in_object}
 use Rattle.carried.specs.declared.fault.Fault.{Fault}
 use Rattle.carried.proofs.Whole.{passed_of, refused_of}
-use Rattle.carried.proofs.look_bundle.Goals as goal
+use Rattle.carried.proofs.look.Goals as goal
 
 pub look_objects-requires : goal.look_objects-requires
 look_objects-requires c = (passed_of _ _ _ (sym c.in-Ok.ensures)).asked
