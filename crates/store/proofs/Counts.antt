@@ -169,9 +169,12 @@ module _ (b : List ℕ) (k : Bundle) (t : length_good bundle_limit b ≡ true) (
   unfolding words_needed needs_of
   words_fit = omega (arith, objects_le b k.big k.objects, greatest_le (length b / 4) k.objects sizes, slots_le (sum (map (object_units b k.big) k.objects)), sizes)
 
-  slot_free : (needs_of b k).units < slots_needed (needs_of b k).units
+  pub few_units : (needs_of b k).units ≤ bundle_limit
   unfolding needs_of
-  slot_free = slots_free (sum (map (object_units b k.big) k.objects)) (omega (arith, objects_le b k.big k.objects, bundle_totals b k e, short))
+  few_units = omega (arith, objects_le b k.big k.objects, bundle_totals b k e, short)
+
+  slot_free : (needs_of b k).units < slots_needed (needs_of b k).units
+  slot_free = slots_free (needs_of b k).units (omega (arith, few_units))
 
 pub needs_fit : NeedsFit
 needs_fit b k t e = record { words = words_fit b k t e; free = slot_free b k t e }

@@ -28,6 +28,7 @@ use Rattle.package.specs.Pack
 use Rattle.store.specs.Stored
 use Rattle.store.specs.Finished
 use Rattle.store.specs.Needs
+use Rattle.store.specs.Sizes
 use Rattle.octets.specs.Octets.{numbers_of}
 use Rattle.octets.specs.Checked.{mapped}
 use Rattle.index.specs.Index.{Contribution}
@@ -36,7 +37,8 @@ use Rattle.package.proofs.Examples.{one, four, five, unit, abbreviations, table,
 use Rattle.store.specs.Stored.{KeptUnit, Stored, filed_bundle}
 use Rattle.store.specs.Finished.{packed_by_filing}
 use Rattle.store.specs.Needs.{needs_of, words_needed}
-use Rattle.bundle.specs.Bundle.{bundle_of}
+use Rattle.store.specs.Sizes.{section_sizes, package_length, sizes_good}
+use Rattle.bundle.specs.Bundle.{Bundle, bundle_of}
 
 -- with work and output enough
 abbrev pack : List ℕ → Answer
@@ -160,9 +162,28 @@ Needed =
     -- strings, and more bytes of str than anything else
     × Counted (one four ((0x2080_0000 ∷ []) ++ abbreviations ++ (0x2300_0004 ∷ 0 ∷ 0x2580_000C ∷ 0 ∷ 0 ∷ 0 ∷ []))) 0 2 12
 
+-- ---- sizes
+abbrev SizesAre : List ℕ → List (List ℕ) → List ℕ → Type 0
+SizesAre b used sizes = mapped (λ (s : Stored). section_sizes s used) (filed_bundle b) ≡ Ok sizes
+
+abbrev Sized : Type 0
+Sized =
+    -- the package of one unit, and one without objects
+    (mapped (λ (k : Bundle). package_length k.objects (20 ∷ 0 ∷ 1 ∷ 0 ∷ 0 ∷ 0 ∷ 0 ∷ 0 ∷ 0 ∷ 0 ∷ 0 ∷ 64 ∷ 0 ∷ [])) (bundle_of single) ≡ Ok 112)
+    × (mapped (λ (k : Bundle). package_length k.objects []) (bundle_of (numbers_of false 4 (0xF000_0000 ∷ 0x3000_0002 ∷ []))) ≡ Ok 8)
+    -- the longest section, and one byte more
+    × (sizes_good (20 ∷ 8_388_607 ∷ []) ≡ true)
+    × (sizes_good (20 ∷ 8_388_608 ∷ []) ≡ false)
+    -- an index of one row, two columns and two slots
+    × SizesAre single [] (20 ∷ 0 ∷ 1 ∷ 0 ∷ 0 ∷ 0 ∷ 0 ∷ 0 ∷ 0 ∷ 0 ∷ 0 ∷ 64 ∷ 0 ∷ [])
+    -- two compilation units, and one type unit that both objects have
+    × SizesAre (two (rooted_as 1 ++ typed ++ table) (rooted_as 2 ++ typed ++ table)) [] (40 ∷ 23 ∷ 18 ∷ 0 ∷ 0 ∷ 0 ∷ 0 ∷ 0 ∷ 0 ∷ 0 ∷ 0 ∷ 104 ∷ 64 ∷ [])
+    -- strings
+    × SizesAre (two_parts 2 0 0x62_0061 12 0 12) ((0x62 ∷ []) ∷ (0x61 ∷ []) ∷ []) (40 ∷ 0 ∷ 1 ∷ 0 ∷ 0 ∷ 24 ∷ 0 ∷ 0 ∷ 0 ∷ 0 ∷ 4 ∷ 124 ∷ 0 ∷ [])
+
 abbrev pub Examples : Type 0
-Examples = OneUnit × Refusals × TwoObjects × Packages × Needed
+Examples = OneUnit × Refusals × TwoObjects × Packages × Needed × Sized
 
 pub examples : Examples
-unfolding Checked.mapped Checked.◌>>=◌ Checked.require Lists.same Lists.has Lists.distinct Lists.zero_together Octets.part Octets.little Octets.big_from Octets.number Octets.number_at Octets.numbers_in Octets.little_of Octets.big_of Octets.bytes_of Octets.numbers_of Octets.zeros Bundle.filled_up Bundle.object_step Bundle.section_step Bundle.end_step Bundle.step_of Bundle.step_at Bundle.followed Bundle.items_from Bundle.items Bundle.leading Bundle.objects_of Bundle.object_first Bundle.bundle_of Bundle.length_good Bundle.parts_of Bundle.count Bundle.first_part Bundle.body Encoding.encoding_of Encoding.encoding_good BundleWritten.word_bytes BundleWritten.head_bytes BundleWritten.section_bytes BundleWritten.object_bytes BundleWritten.end_bytes BundleWritten.written Leb128.groups Leb128.short Leb128.unsigned Leb128.signed_size Abbreviations.attribute_at Abbreviations.attributes_then Abbreviations.attributes_from Abbreviations.attributes_of Abbreviations.declaration_at Abbreviations.declarations_then Abbreviations.declarations_from Abbreviations.declarations_of Abbreviations.declaration_of Forms.forms Forms.width_in Forms.zero_ended Forms.value_size Root.needed Root.plain_value Root.value_of Root.identity_at Root.identity_in Root.root_tag Root.root_identity InitialLength.marked InitialLength.length_field InitialLength.length_stated UnitRead.length_good UnitRead.unit_size UnitRead.is_five UnitRead.address_place UnitRead.common_size UnitRead.behind_common UnitRead.identity_five UnitRead.identity_four UnitRead.identity_of UnitRead.unit_by Strings.header_size Strings.header_true Strings.entries_in Strings.entries_of Strings.up_to_zero Strings.string_at Strings.strings_at Strings.put Strings.put_all Strings.first_uses Strings.ended Strings.str_of Strings.offset_in Strings.remapped Columns.columns_four Columns.columns_five Columns.columns_of Columns.column_in Index.version_of Index.columns_most Index.code_good Index.power_from Index.least_power Index.slots_good Index.layout Index.index_of Index.place_of Index.cell_at Index.cell_of Probing.first_slot Probing.stride Probing.look Probing.search Probing.probe Probing.slots_for Probing.free_from Probing.place Probing.place_all Probing.unused Probing.slots_of Rows.shared Rows.needed_codes Rows.is_some Rows.row_of Rows.cell_is Rows.own_place Rows.part_good Rows.row_contributions Rows.row_numbers Rows.naming Rows.the_one Rows.abbrev_part Rows.whole_contributions IndexWritten.present_columns IndexWritten.offset_of IndexWritten.size_of IndexWritten.grid IndexWritten.start_bytes IndexWritten.index_with IndexWritten.index_bytes Filing.is_under Filing.index_for Filing.lengths Filing.index_by_place Filing.abbreviations_for Filing.contributions_of Filing.skipped Filing.unit_at Filing.units_from Filing.units_in Filing.grown Filing.filing_from Filing.first_word Filing.filing_of Filing.keep Filing.keep_all Filing.kept Input.present Input.repeated Input.wrong_codes Input.only_once Input.edition_good Input.complete Input.beside_info Input.form_of Input.input_index Input.whole_pieces Input.is_packed Input.tiled_pieces Input.unit_sections Input.opened_whole Input.opened_tiled Input.opened Input.input_of Pieces.piece_of Pieces.pieces_of Pieces.used_in Pieces.remapped_all Tiles.not_empty Tiles.named_in Tiles.named_by Tiles.named Tiles.same_parts Tiles.starts_at Tiles.tiles_from Tiles.tiles Filing.is_package Pack.cells Pack.longer Pack.entries_from Pack.rows_of Pack.unit_bytes Pack.shared_bytes Pack.all_used Pack.string_table Pack.section_list Pack.non_empty Pack.package_sections Pack.package_objects Answers.answered Stored.codes Stored.nothing_stored Stored.section_bytes Stored.read_unit Stored.kept_bytes Stored.kept_under Stored.skipped_unit Stored.bytes_before Stored.moved Stored.stated Stored.cells_by Stored.marked_from Stored.marked Stored.with_unit Stored.new_unit Stored.filed_read Stored.filed_unit Stored.filed_from Stored.filed_rest Stored.filed_section Stored.unit_parts Stored.filed_sections Stored.if_short Stored.with_strings Stored.with_object Stored.filed_object Stored.filed_objects Stored.version_of Stored.filed_bundle Finished.units_joined Finished.cell_from Finished.columns_in Finished.row_in Finished.rows_in Finished.index_in Finished.inputs_of Finished.sections_in Finished.short_strings Finished.package_of Finished.packed_by_filing Filing.of_kind Lists.sum Needs.counted Needs.counted_from Needs.units_counted Needs.object_units Needs.bytes_in Needs.reading_words Needs.scratch_words Needs.greatest Needs.needs_of Needs.slots_needed Needs.words_needed
-examples = ((refl, refl, refl), (refl, refl, refl, refl), (refl, refl, refl), (refl, refl), (refl, refl, refl, refl, refl, refl, refl))
+unfolding Checked.mapped Checked.◌>>=◌ Checked.require Lists.same Lists.has Lists.distinct Lists.zero_together Octets.part Octets.little Octets.big_from Octets.number Octets.number_at Octets.numbers_in Octets.little_of Octets.big_of Octets.bytes_of Octets.numbers_of Octets.zeros Bundle.filled_up Bundle.object_step Bundle.section_step Bundle.end_step Bundle.step_of Bundle.step_at Bundle.followed Bundle.items_from Bundle.items Bundle.leading Bundle.objects_of Bundle.object_first Bundle.bundle_of Bundle.length_good Bundle.parts_of Bundle.count Bundle.first_part Bundle.body Encoding.encoding_of Encoding.encoding_good BundleWritten.word_bytes BundleWritten.head_bytes BundleWritten.section_bytes BundleWritten.object_bytes BundleWritten.end_bytes BundleWritten.written Leb128.groups Leb128.short Leb128.unsigned Leb128.signed_size Abbreviations.attribute_at Abbreviations.attributes_then Abbreviations.attributes_from Abbreviations.attributes_of Abbreviations.declaration_at Abbreviations.declarations_then Abbreviations.declarations_from Abbreviations.declarations_of Abbreviations.declaration_of Forms.forms Forms.width_in Forms.zero_ended Forms.value_size Root.needed Root.plain_value Root.value_of Root.identity_at Root.identity_in Root.root_tag Root.root_identity InitialLength.marked InitialLength.length_field InitialLength.length_stated UnitRead.length_good UnitRead.unit_size UnitRead.is_five UnitRead.address_place UnitRead.common_size UnitRead.behind_common UnitRead.identity_five UnitRead.identity_four UnitRead.identity_of UnitRead.unit_by Strings.header_size Strings.header_true Strings.entries_in Strings.entries_of Strings.up_to_zero Strings.string_at Strings.strings_at Strings.put Strings.put_all Strings.first_uses Strings.ended Strings.str_of Strings.offset_in Strings.remapped Columns.columns_four Columns.columns_five Columns.columns_of Columns.column_in Index.version_of Index.columns_most Index.code_good Index.power_from Index.least_power Index.slots_good Index.layout Index.index_of Index.place_of Index.cell_at Index.cell_of Probing.first_slot Probing.stride Probing.look Probing.search Probing.probe Probing.slots_for Probing.free_from Probing.place Probing.place_all Probing.unused Probing.slots_of Rows.shared Rows.needed_codes Rows.is_some Rows.row_of Rows.cell_is Rows.own_place Rows.part_good Rows.row_contributions Rows.row_numbers Rows.naming Rows.the_one Rows.abbrev_part Rows.whole_contributions IndexWritten.present_columns IndexWritten.offset_of IndexWritten.size_of IndexWritten.grid IndexWritten.start_bytes IndexWritten.index_with IndexWritten.index_bytes Filing.is_under Filing.index_for Filing.lengths Filing.index_by_place Filing.abbreviations_for Filing.contributions_of Filing.skipped Filing.unit_at Filing.units_from Filing.units_in Filing.grown Filing.filing_from Filing.first_word Filing.filing_of Filing.keep Filing.keep_all Filing.kept Input.present Input.repeated Input.wrong_codes Input.only_once Input.edition_good Input.complete Input.beside_info Input.form_of Input.input_index Input.whole_pieces Input.is_packed Input.tiled_pieces Input.unit_sections Input.opened_whole Input.opened_tiled Input.opened Input.input_of Pieces.piece_of Pieces.pieces_of Pieces.used_in Pieces.remapped_all Tiles.not_empty Tiles.named_in Tiles.named_by Tiles.named Tiles.same_parts Tiles.starts_at Tiles.tiles_from Tiles.tiles Filing.is_package Pack.cells Pack.longer Pack.entries_from Pack.rows_of Pack.unit_bytes Pack.shared_bytes Pack.all_used Pack.string_table Pack.section_list Pack.non_empty Pack.package_sections Pack.package_objects Answers.answered Stored.codes Stored.nothing_stored Stored.section_bytes Stored.read_unit Stored.kept_bytes Stored.kept_under Stored.skipped_unit Stored.bytes_before Stored.behind Stored.moved Stored.stated Stored.cells_by Stored.marked_from Stored.marked Stored.with_unit Stored.new_unit Stored.filed_beside Stored.filed_read Stored.filed_unit Stored.filed_from Stored.filed_rest Stored.filed_section Stored.unit_parts Stored.filed_sections Stored.if_short Stored.used_with Stored.with_strings Stored.with_object Stored.filed_object Stored.filed_objects Stored.version_of Stored.filed_bundle Finished.units_joined Finished.cell_from Finished.columns_in Finished.row_in Finished.rows_in Finished.index_in Finished.inputs_of Finished.sections_in Finished.short_strings Finished.package_of Finished.packed_by_filing Filing.of_kind Lists.sum Needs.counted Needs.counted_from Needs.units_counted Needs.object_units Needs.bytes_in Needs.reading_words Needs.scratch_words Needs.greatest Needs.needs_of Needs.slots_needed Needs.words_needed Sizes.index_size Sizes.table_size Sizes.section_sizes Sizes.framed_size Sizes.package_length Sizes.sizes_good
+examples = ((refl, refl, refl), (refl, refl, refl, refl), (refl, refl, refl), (refl, refl), (refl, refl, refl, refl, refl, refl, refl), (refl, refl, refl, refl, refl, refl, refl))

@@ -1,6 +1,6 @@
 -- What is filed fits into what was counted: no more units are kept, and no more strings used.
 use Rattle.std.proofs.Common.{◌≡◌, sym, ap, ◌∙◌, subst, ⊎_elim, true, false, List, [], ◌∷◌, map, ℕ, zero, suc, ◌+◌, ◌*◌, ◌≤◌, arith, eqb, leb, length, drop, length-append, leb-true, leb-false}
-use Rattle.std.specs.Prelude.{Option, Some, None, Result, Ok}
+use Rattle.std.specs.Prelude.{Option, Some, None, Ok}
 use Rattle.numbers.specs.Limits.{section_limit}
 use Rattle.octets.specs.Octets.{part}
 use Rattle.octets.specs.Lists.{sum, joined}
@@ -25,7 +25,7 @@ use Rattle.package.specs.Pack.{all_used}
 use Rattle.package.proofs.Each.{each_head, each_tail}
 use Rattle.package.proofs.Pieces.{PieceFacts, bytes_of}
 use Rattle.package.proofs.Inputs.{input_parts, pieced, opened_parts, opened_of}
-use Rattle.store.specs.Stored.{KeptUnit, Stored, Reading, UnitFiled, section_bytes, read_unit, kept_under, skipped_unit, moved, with_unit, new_unit, filed_read, filed_unit, filed_from, filed_rest, filed_section, unit_parts, filed_sections, if_short, with_strings, with_object, filed_object, filed_objects, version_of, nothing_stored, filed_bundle}
+use Rattle.store.specs.Stored.{KeptUnit, Stored, Reading, UnitFiled, section_bytes, read_unit, kept_under, skipped_unit, moved, with_unit, new_unit, filed_beside, filed_read, filed_unit, filed_from, filed_rest, filed_section, unit_parts, filed_sections, if_short, with_strings, with_object, filed_object, filed_objects, version_of, nothing_stored, filed_bundle}
 use Rattle.store.specs.Finished.{inputs_of}
 use Rattle.store.specs.Needs.{units_counted, object_units, bytes_in, needs_of}
 use Rattle.store.specs.Laws.{FiledFits}
@@ -51,10 +51,10 @@ new_units r at u s t q =
     omega (arith, z, length-append s.units)
 
 read_units : (r : Reading) (at : ℕ) (u : UnitRead) (s t : Stored) → filed_read r at u s ≡ Ok t → length t.units ≤ length s.units + 1
-unfolding filed_read
+unfolding filed_read filed_beside
 read_units r at u s t q = go (kept_under u.table u.identity s.units) q
   where
-    go : (o : Option KeptUnit) → (elim o as (λ z. Result Stored ℕ) [ Some k ↦ skipped_unit r at u k s | None ↦ new_unit r at u s ]) ≡ Ok t → length t.units ≤ length s.units + 1
+    go : (o : Option KeptUnit) → filed_beside o r at u s ≡ Ok t → length t.units ≤ length s.units + 1
     go (Some k) e = omega (arith, skipped_units r at u k s t e)
     go None e = new_units r at u s t e
 
@@ -168,14 +168,14 @@ module _ (b : List ℕ) (k : Bundle) where
       omega (arith, z, length-append (used_in i.0.pieces) (all_used rest.0), input_used o i.0 i.1, inputs_used os rest.0 rest.1)
 
 -- strings that are short are all of them
-short_all : (us used : List (List ℕ)) → if_short us ≡ Some used → length used ≡ length us
-short_all us used q = ⊎_elim
+pub short_same : (us used : List (List ℕ)) → if_short us ≡ Some used → us ≡ used
+short_same us used q = ⊎_elim
     (λ (t : leb (length (str_of (first_uses us))) section_limit ≡ true). same (sym (short_is us t) ∙ q))
     (λ (t : leb (length (str_of (first_uses us))) section_limit ≡ false). some_none (sym q ∙ short_not us t))
     (known (leb (length (str_of (first_uses us))) section_limit))
   where
-    same : Some us ≡ Some used → length used ≡ length us
-    same e = let z : us ≡ used = cc in ap length (sym z)
+    same : ◌≡◌ {A = Option (List (List ℕ))} (Some us) (Some used) → us ≡ used
+    same e = cc
 
 -- ---- both
 module _ (b : List ℕ) (k : Bundle) (s : Stored) (q : filed_objects b k k.objects (nothing_stored (version_of k)) ≡ Ok s) where
@@ -186,9 +186,9 @@ module _ (b : List ℕ) (k : Bundle) (s : Stored) (q : filed_objects b k k.objec
   strings_fit : (used : List (List ℕ)) → s.used ≡ Some used → length used ≤ (needs_of b k).entries
   unfolding needs_of filing_of
   strings_fit used h =
-      let f = alike_passes (Ends b k [] []) (filed_objects b k k.objects (nothing_stored (version_of k))) (filing_of b k) s (bundle_step b k) q in
+      let f = alike_passes (Ends b k (λ c. 0) [] []) (filed_objects b k k.objects (nothing_stored (version_of k))) (filing_of b k) s (bundle_step b k) q in
       let few = inputs_used b k k.objects f.0.inputs (inputs_again b k (λ c. 0) [] k.objects f.0 f.1) in
-      let same = short_all (all_used f.0.inputs) used (sym f.2.holds.strings ∙ h) in
+      let same = ap length (short_same (all_used f.0.inputs) used (sym f.2.holds.strings ∙ h)) in
       omega (arith, few, same)
 
 pub filed_fits : FiledFits

@@ -8,4 +8,6 @@ pub mod Walks
 pub mod Packages
 pub mod Counts
 pub mod Fitting
+pub mod Sizing
+pub mod Deciding
 pub mod Examples

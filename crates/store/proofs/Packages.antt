@@ -57,11 +57,11 @@ one_long (z ∷ pre) x post t = ⊎_elim
 
 -- ---- the sections
 module _ (b : List ℕ) (k : Bundle) (f : Filing) (s : Stored) (bases : BySection ℕ) (h : Holds b (version_of k) bases (all_used f.inputs) f.units s) where
-  units_are : (home : ℕ) → units_joined b s home ≡ unit_bytes (kept f.units) home
+  pub units_are : (home : ℕ) → units_joined b s home ≡ unit_bytes (kept f.units) home
   unfolding units_joined
   units_are home = bytes_are b (version_of k) nothing_before s.units (kept f.units) home h.units
 
-  index_is : (table : ℕ) → columns_in s table ≡ marks (version_of k) (rows_from nothing_before (kept f.units) table)
+  pub index_is : (table : ℕ) → columns_in s table ≡ marks (version_of k) (rows_from nothing_before (kept f.units) table)
       → index_in k s table ≡ index_bytes k.big (version_of k) (rows_of (kept f.units) table)
   unfolding index_in rows_in
   index_is table e =
@@ -126,7 +126,7 @@ filed_and_written : (b : List ℕ) → (filed_bundle b >>= λ s. package_of b s)
 unfolding filed_bundle version_of filing_of
 filed_and_written b =
     bind_bind (bundle_of b) (λ k. filed_objects b k k.objects (nothing_stored (version_of k))) (λ s. package_of b s)
-    ∙ bind_same (bundle_of b) _ _ (λ k e. alike_then (Ends b k [] []) (filed_objects b k k.objects (nothing_stored (version_of k))) (filing_of b k) (λ s. package_of b s) _ (bundle_step b k)
+    ∙ bind_same (bundle_of b) _ _ (λ k e. alike_then (Ends b k (λ c. 0) [] []) (filed_objects b k k.objects (nothing_stored (version_of k))) (filing_of b k) (λ s. package_of b s) _ (bundle_step b k)
     (λ s f q z. package_is b k f s z.bases z.holds e (inputs_again b k (λ c. 0) [] k.objects f q)))
 
 answers : (b : List ℕ) (w o : ℕ) → packed_by_filing b w o ≡ packed b w o
@@ -139,7 +139,7 @@ handed_units : (b : List ℕ) (s : Stored) → filed_bundle b ≡ Ok s → (vers
 unfolding filed_bundle handed_in
 handed_units b s q =
     let k = bind_pass (bundle_of b) _ s q in
-    let f = alike_passes (Ends b k.0 [] []) (filed_objects b k.0 k.0.objects (nothing_stored (version_of k.0))) (filing_of b k.0) s (bundle_step b k.0) k.2 in
+    let f = alike_passes (Ends b k.0 (λ c. 0) [] []) (filed_objects b k.0 k.0.objects (nothing_stored (version_of k.0))) (filing_of b k.0) s (bundle_step b k.0) k.2 in
     let units : f.0.units ≡ handed_in b = sym (rw (handed_in, then_pass (bundle_of b) (filing_of b) k.0 k.1 ∙ f.1)) in
     (version_of k.0, f.2.bases, all_used f.0.inputs, subst (λ (us : List Filed). Holds b (version_of k.0) f.2.bases (all_used f.0.inputs) us s) units f.2.holds)
 

@@ -27,7 +27,7 @@ use Rattle.package.proofs.Each.{each_so}
 use Rattle.package.proofs.Kept.{keep_new, keep_known, any_kept, kept_snoc}
 use Rattle.package.proofs.Counting.{count_new, count_known}
 use Rattle.package.proofs.Rows.{behind_all, behind_at, nothing_before, unit_here, unit_later, unit_append, row_at, rows_from, rows_here, rows_later, rows_append}
-use Rattle.store.specs.Stored.{KeptUnit, Stored, Reading, UnitFiled, codes, section_bytes, read_unit, kept_bytes, skipped_unit, bytes_before, moved, cells_by, marked, with_unit, new_unit, filed_read, filed_unit}
+use Rattle.store.specs.Stored.{KeptUnit, Stored, Reading, UnitFiled, codes, section_bytes, read_unit, kept_bytes, skipped_unit, bytes_before, behind, moved, cells_by, marked, with_unit, new_unit, filed_beside, filed_read, filed_unit}
 use Rattle.store.proofs.Checks.{Alike, alike_pass, alike_refuse, alike_are, alike_same, bind_bind}
 use Rattle.store.proofs.Rows.{by_version, marks, marks_more, cells_same, marked_same}
 use Rattle.store.proofs.Holding.{UnitsAre, units_more, Seen, seen, unseen, Holds}
@@ -69,6 +69,11 @@ cell parts home c at size base =
     if eqb c home
     then Some (record { offset = at; size = size })
     else elim (parts c) [ Some k ↦ Some (record { offset = base + k.offset; size = k.size }) | None ↦ None ]
+
+behind_is : (base : ℕ) (o : Option Contribution) → behind base o ≡ (elim o [ Some k ↦ Some (record { offset = base + k.offset; size = k.size }) | None ↦ None ])
+unfolding behind
+behind_is base (Some k) = refl
+behind_is base None = refl
 
 -- ---- rows and bytes of one unit more
 module _ (ks : List Filed) (y : Filed) where
@@ -132,7 +137,8 @@ module _ (b : List ℕ) (i : Input) (p : Part) (version : ℕ) (versions : i.enc
       unfolding moved cells
       lie_at c e =
           let base : get_or s.bases c 0 ≡ bases c = ap (λ (l : List ℕ). get_or l c 0) k.based ∙ e in
-          λ j. cell parts p.code c (before j) (sym long j) (base j)
+          ap (λ (o : Option Contribution). (if eqb c p.code then Some (record { offset = bytes_before s p.code; size = u.size }) else o)) (behind_is (get_or s.bases c 0) (parts c))
+          ∙ (λ j. cell parts p.code c (before j) (sym long j) (base j))
 
       each_lies : Every (λ (l : Column). lie l.section ≡ cells y (behind_all nothing_before (kept us) p.code) l.section) (columns_of version)
       each_lies = each_so (λ (l : Column) e. lie_at l.section e) (based_at bases version)
@@ -246,10 +252,10 @@ module _ (b : List ℕ) (i : Input) (p : Part) (version : ℕ) (versions : i.enc
 
     -- kept
     step_new : any (is_under u.table u.identity) us ≡ false → Alike (After us at) (filed_read r at u s >>= goes) (Judged >>= ends)
-    unfolding filed_read new_unit ◌>>=◌
+    unfolding filed_read filed_beside new_unit ◌>>=◌
     step_new new =
         alike_are (After us at)
-        (ap (λ (o : Option KeptUnit). (elim o as (λ z. Result Stored ℕ) [ Some x ↦ skipped_unit r at u x s | None ↦ new_unit r at u s ]) >>= goes) (unseen b version u.table u.identity nothing_before s.units us k.units new)
+        (ap (λ (o : Option KeptUnit). filed_beside o r at u s >>= goes) (unseen b version u.table u.identity nothing_before s.units us k.units new)
         ∙ bind_bind (contributions_of i p.code at u) (λ parts. Ok (with_unit r at u (moved s p.code u parts) s)) goes)
         (ap (λ (t : Bool). (if t then skipped u.table else contributions_of i p.code at u) >>= ends) new)
         (alike_same (After us at) (contributions_of i p.code at u) (λ parts. goes (with_unit r at u (moved s p.code u parts) s)) ends
@@ -257,11 +263,11 @@ module _ (b : List ℕ) (i : Input) (p : Part) (version : ℕ) (versions : i.enc
 
     -- skipped, or 14
     step_old : any (is_under u.table u.identity) us ≡ true → Alike (After us at) (filed_read r at u s >>= goes) (Judged >>= ends)
-    unfolding filed_read skipped_unit skipped section_bytes
+    unfolding filed_read filed_beside skipped_unit skipped section_bytes
     step_old old =
         let f = seen b version u.table u.identity nothing_before s.units us k.units old in
         alike_are (After us at)
-        (ap (λ (o : Option KeptUnit). (elim o as (λ z. Result Stored ℕ) [ Some x ↦ skipped_unit r at u x s | None ↦ new_unit r at u s ]) >>= goes) f.is)
+        (ap (λ (o : Option KeptUnit). filed_beside o r at u s >>= goes) f.is)
         (ap (λ (t : Bool). (if t then skipped u.table else contributions_of i p.code at u) >>= ends) old)
         (⊎_elim
         (λ (t : eqb u.table 1 ≡ true).

@@ -4,6 +4,7 @@ use Rattle.std.specs.Prelude.{Option, Some, None, Result, Ok}
 use borrow.Author.Tests.{lt-leb}
 use Rattle.numbers.specs.Limits.{section_limit}
 use Rattle.octets.specs.Octets.{part}
+use Rattle.octets.specs.Lists.{sum}
 use Rattle.octets.specs.Checked.{◌>>=◌}
 use Rattle.octets.proofs.Checks.{known, or_cases}
 use Rattle.octets.proofs.Elements.{no_length}
@@ -19,8 +20,9 @@ use Rattle.package.specs.Input.{Input, unit_sections, input_of}
 use Rattle.package.specs.Filing.{Filed, Filing, unit_at, units_from, units_in, grown, filing_from, first_word, filing_of}
 use Rattle.package.specs.Pack.{all_used}
 use Rattle.package.proofs.Each.{each_head, each_tail, each_so, each_passed}
+use Rattle.package.proofs.Filing.{lengths_in}
 use Rattle.package.proofs.Inputs.{InputParts, input_parts}
-use Rattle.store.specs.Stored.{Stored, Reading, codes, nothing_stored, section_bytes, filed_unit, filed_from, filed_rest, filed_section, unit_parts, filed_sections, if_short, with_strings, with_object, filed_object, filed_objects, version_of}
+use Rattle.store.specs.Stored.{Stored, Reading, codes, nothing_stored, section_bytes, filed_unit, filed_from, filed_rest, filed_section, unit_parts, filed_sections, if_short, used_with, with_strings, with_object, filed_object, filed_objects, version_of}
 use Rattle.store.proofs.Checks.{Alike, alike_pass, alike_refuse, alike_are, alike_bind, alike_same, alike_right, two_steps}
 use Rattle.store.proofs.Holding.{Holds, holds_none}
 use Rattle.store.proofs.Units.{After, unit_step}
@@ -109,12 +111,12 @@ str_grows us more =
     omega (arith, ap (λ (l : List (List ℕ)). length (str_of l)) (put_all_append [] us more ∙ g.1), length_str_of_append (put_all [] us) g.0)
 
 strings_more : (s : Stored) (us more : List (List ℕ)) → s.used ≡ if_short us → (with_strings s more).used ≡ if_short (us ++ more)
-unfolding with_strings
+unfolding with_strings used_with
 strings_more s us more e = ⊎_elim
     (λ (t : leb (length (str_of (first_uses us))) section_limit ≡ true).
-    ap (λ (o : Option (List (List ℕ))). elim o as (λ z. Option (List (List ℕ))) [ Some x ↦ if_short (x ++ more) | None ↦ None ]) (e ∙ short_is us t))
+    ap (λ (o : Option (List (List ℕ))). used_with o more) (e ∙ short_is us t))
     (λ (t : leb (length (str_of (first_uses us))) section_limit ≡ false).
-    ap (λ (o : Option (List (List ℕ))). elim o as (λ z. Option (List (List ℕ))) [ Some x ↦ if_short (x ++ more) | None ↦ None ]) (e ∙ short_not us t)
+    ap (λ (o : Option (List (List ℕ))). used_with o more) (e ∙ short_not us t)
     ∙ sym (short_not (us ++ more) (lt-leb (length (str_of (first_uses (us ++ more)))) section_limit (omega (arith, leb-false (length (str_of (first_uses us))) section_limit t, str_grows us more)))))
     (known (leb (length (str_of (first_uses us))) section_limit))
 
@@ -184,44 +186,47 @@ module _ (b : List ℕ) (k : Bundle) where
       (λ t here f g z. alike_pass (Behind bases used us) _ _ (with_bases bases (used ++ more) (us ++ here) t i z)))
 
   -- ---- all objects
-  -- behind them all
-  pub record Ends (used : List (List ℕ)) (us : List Filed) (t : Stored) (f : Filing) : Type 0 where
+  -- behind them all, where the sections of the first one begin at start
+  pub record Ends (start : BySection ℕ) (used : List (List ℕ)) (us : List Filed) (t : Stored) (f : Filing) : Type 0 where
     pub bases : BySection ℕ
     pub holds : Holds b (version_of k) bases (used ++ all_used f.inputs) (us ++ f.units) t
+    pub behind : (c : ℕ) → bases c ≡ start c + lengths_in f.inputs c
 
-  ends_more : (used : List (List ℕ)) (us : List Filed) (i : Input) (here : List Filed) (t : Stored) (f : Filing) → Ends (used ++ used_in i.pieces) (us ++ here) t f
-      → Ends used us t (record { inputs = i ∷ f.inputs; units = here ++ f.units })
-  unfolding all_used
-  ends_more used us i here t f z = record {
+  ends_more : (start : BySection ℕ) (used : List (List ℕ)) (us : List Filed) (i : Input) (here : List Filed) (t : Stored) (f : Filing)
+      → Ends (grown start i) (used ++ used_in i.pieces) (us ++ here) t f → Ends start used us t (record { inputs = i ∷ f.inputs; units = here ++ f.units })
+  unfolding all_used lengths_in sum grown
+  ends_more start used us i here t f z = record {
     bases = z.bases;
     holds = subst (λ (l : List Filed). Holds b (version_of k) z.bases (used ++ (used_in i.pieces ++ all_used f.inputs)) l t) (append_assoc us here f.units)
         (subst (λ (l : List (List ℕ)). Holds b (version_of k) z.bases l ((us ++ here) ++ f.units) t) (append_assoc used (used_in i.pieces) (all_used f.inputs)) z.holds);
+    behind = λ c. omega (arith, z.behind c);
   }
 
-  ends_none : (bases : BySection ℕ) (used : List (List ℕ)) (us : List Filed) (s : Stored) → Holds b (version_of k) bases used us s → Ends used us s (record { inputs = []; units = [] })
-  unfolding all_used
+  ends_none : (bases : BySection ℕ) (used : List (List ℕ)) (us : List Filed) (s : Stored) → Holds b (version_of k) bases used us s → Ends bases used us s (record { inputs = []; units = [] })
+  unfolding all_used lengths_in sum
   ends_none bases used us s h = record {
     bases = bases;
     holds = subst (λ (l : List Filed). Holds b (version_of k) bases (used ++ []) l s) (sym (append-nil us))
         (subst (λ (l : List (List ℕ)). Holds b (version_of k) bases l us s) (sym (append-nil used)) h);
+    behind = λ c. omega arith;
   }
 
   pub objects_step : (os : List Object) (bases : BySection ℕ) (used : List (List ℕ)) (us : List Filed) (s : Stored) → Holds b (version_of k) bases used us s
-      → Alike (Ends used us) (filed_objects b k os s) (filing_from b k.big (first_word k.objects) bases us os)
+      → Alike (Ends bases used us) (filed_objects b k os s) (filing_from b k.big (first_word k.objects) bases us os)
   unfolding filed_objects filing_from
-  objects_step [] bases used us s h = alike_pass (Ends used us) _ _ (ends_none bases used us s h)
+  objects_step [] bases used us s h = alike_pass (Ends bases used us) _ _ (ends_none bases used us s h)
   objects_step (o ∷ os) bases used us s h =
-      alike_are (Ends used us) refl
+      alike_are (Ends bases used us) refl
       (two_steps (input_of b k.big (first_word k.objects) o) (λ i. units_in i bases us [] i.units)
       (λ i here. filing_from b k.big (first_word k.objects) (grown bases i) (us ++ here) os >>= λ rest. Ok (record { inputs = i ∷ rest.inputs; units = here ++ rest.units })))
-      (alike_bind (Behind bases used us) (Ends used us) (filed_object b k o s) (object_units bases us o) (λ t. filed_objects b k os t)
+      (alike_bind (Behind bases used us) (Ends bases used us) (filed_object b k o s) (object_units bases us o) (λ t. filed_objects b k os t)
       (λ (q : Input × List Filed). filing_from b k.big (first_word k.objects) (grown bases q.0) (us ++ q.1) os >>= λ rest. Ok (record { inputs = q.0 ∷ rest.inputs; units = q.1 ++ rest.units }))
       (object_step bases used us s o h)
-      (λ t q e g z. alike_right (Ends (used ++ used_in q.0.pieces) (us ++ q.1)) (Ends used us) (filed_objects b k os t) (filing_from b k.big (first_word k.objects) (grown bases q.0) (us ++ q.1) os)
+      (λ t q e g z. alike_right (Ends (grown bases q.0) (used ++ used_in q.0.pieces) (us ++ q.1)) (Ends bases used us) (filed_objects b k os t) (filing_from b k.big (first_word k.objects) (grown bases q.0) (us ++ q.1) os)
       (λ (rest : Filing). record { inputs = q.0 ∷ rest.inputs; units = q.1 ++ rest.units })
       (objects_step os (grown bases q.0) (used ++ used_in q.0.pieces) (us ++ q.1) t z)
-      (λ u f a. ends_more used us q.0 q.1 u f a)))
+      (λ u f a. ends_more bases used us q.0 q.1 u f a)))
 
-  pub bundle_step : Alike (Ends [] []) (filed_objects b k k.objects (nothing_stored (version_of k))) (filing_of b k)
+  pub bundle_step : Alike (Ends (λ c. 0) [] []) (filed_objects b k k.objects (nothing_stored (version_of k))) (filing_of b k)
   unfolding filing_of
   bundle_step = objects_step k.objects (λ c. 0) [] [] (nothing_stored (version_of k)) (holds_none b (version_of k))

@@ -1,14 +1,17 @@
 -- The laws of what is filed as a value.
-use Rattle.std.specs.Prelude.{◌≡◌, true, List, ℕ, suc, ◌+◌, ◌*◌, ◌/◌, ◌<◌, ◌≤◌, length, drop, Some, Ok}
+use Rattle.std.specs.Prelude.{◌≡◌, true, List, ℕ, suc, ◌+◌, ◌*◌, ◌/◌, ◌<◌, ◌≤◌, map, length, drop, false, Some, Ok, Err}
 use Rattle.numbers.specs.Limits.{bundle_limit}
+use Rattle.numbers.specs.Refusals.{section_too_long}
 use Rattle.octets.specs.Checked.{◌>>=◌}
 use Rattle.bundle.specs.Bundle.{Bundle, bundle_of, length_good}
 use Rattle.bundle.specs.Encoding.{encoding_good}
 use Rattle.unit.specs.UnitRead.{UnitRead}
+use Rattle.package.specs.Input.{Input}
 use Rattle.package.specs.Filing.{repeat, namesake, count_of}
 use Rattle.package.specs.Pack.{packed, handed_in}
 use Rattle.store.specs.Stored.{Stored, Reading, section_bytes, read_unit, filed_unit, filed_rest, filed_bundle}
-use Rattle.store.specs.Finished.{packed_by_filing}
+use Rattle.store.specs.Finished.{inputs_of, sections_in, package_of, packed_by_filing}
+use Rattle.store.specs.Sizes.{section_sizes, sizes_good, package_length}
 use Rattle.store.specs.Needs.{units_counted, needs_of, slots_needed, words_needed}
 
 -- Filing a bundle as a value and writing what is filed gives what packing gives, package or refusal; and it counts what packing counts.
@@ -43,3 +46,19 @@ pub record StoredFits (b : List ℕ) (k : Bundle) (s : Stored) : Type 0 where
 
 abbrev pub FiledFits : Type 0
 FiledFits = (b : List ℕ) (k : Bundle) (s : Stored) → bundle_of b ≡ Ok k → filed_bundle b ≡ Ok s → StoredFits b k s
+
+-- The sections that are written are as long as their sizes say.
+abbrev pub SizesAreLengths : Type 0
+SizesAreLengths =
+    (b : List ℕ) (k : Bundle) (s : Stored) (inputs : List Input) (used : List (List ℕ)) → length_good bundle_limit b ≡ true → bundle_of b ≡ Ok k → filed_bundle b ≡ Ok s
+    → inputs_of b k k.objects ≡ Ok inputs → s.used ≡ Some used → map (λ x. length x.bytes) (sections_in b k inputs used s) ≡ section_sizes s used
+
+-- By these sizes alone it is known whether the package is refused by 19, and how long it is.
+pub record BySizes (b : List ℕ) (k : Bundle) (s : Stored) (sizes : List ℕ) : Type 0 where
+  pub refused : sizes_good sizes ≡ false → package_of b s ≡ Err section_too_long
+  pub written : sizes_good sizes ≡ true → (p : List ℕ) × (package_of b s ≡ Ok p) × (length p ≡ package_length k.objects sizes)
+
+abbrev pub SizesDecide : Type 0
+SizesDecide =
+    (b : List ℕ) (k : Bundle) (s : Stored) (used : List (List ℕ)) → length_good bundle_limit b ≡ true → bundle_of b ≡ Ok k → filed_bundle b ≡ Ok s → s.used ≡ Some used
+    → BySizes b k s (section_sizes s used)

@@ -98,12 +98,17 @@ skipped_unit r at u k s =
 unfoldable pub bytes_before : Stored → ℕ → ℕ
 bytes_before s home = if home == info_code then s.info else s.types
 
+-- a part of an object's section, where that begins at a base
+unfoldable pub behind : ℕ → Option Contribution → Option Contribution
+behind base (Some k) = Some (record { offset = base + k.offset; size = k.size })
+behind base None = None
+
 -- where a unit's parts will lie in the package: its own bytes behind those kept before, all else behind what the objects before have
 unfoldable pub moved : Stored → ℕ → UnitRead → BySection (Option Contribution) → BySection (Option Contribution)
 moved s home u parts c =
     if c == home
     then Some (record { offset = bytes_before s home; size = u.size })
-    else elim (parts c) [ Some k ↦ Some (record { offset = slice_index s.bases c + k.offset; size = k.size }) | None ↦ None ]
+    else behind (slice_index s.bases c) (parts c)
 
 -- as it is kept: 0 and 0 for nothing
 unfoldable pub stated : Option Contribution → Contribution
@@ -140,12 +145,12 @@ unfoldable pub new_unit : Reading → ℕ → UnitRead → Stored → Result Sto
 new_unit r at u s = contributions_of r.object r.section.code at u >>= λ parts. Ok (with_unit r at u (moved s r.section.code u parts) s)
 
 -- 14 to 16, of a unit that was read at a place of the section
+unfoldable pub filed_beside : Option KeptUnit → Reading → ℕ → UnitRead → Stored → Result Stored ℕ
+filed_beside (Some k) r at u s = skipped_unit r at u k s
+filed_beside None r at u s = new_unit r at u s
+
 unfoldable pub filed_read : Reading → ℕ → UnitRead → Stored → Result Stored ℕ
-filed_read r at u s =
-    elim (kept_under u.table u.identity s.units) [
-      | Some k ↦ skipped_unit r at u k s
-      | None ↦ new_unit r at u s
-    ]
+filed_read r at u s = filed_beside (kept_under u.table u.identity s.units) r at u s
 
 -- what is filed with a unit more, and the place behind it
 pub record UnitFiled : Type 0 where
@@ -187,9 +192,13 @@ filed_sections b i (p ∷ ps) s = filed_section (record { bundle = b; object = i
 unfoldable pub if_short : List (List ℕ) → Option (List (List ℕ))
 if_short used = if nat_le (length (str_of (first_uses used))) section_limit then Some used else None
 
+unfoldable pub used_with : Option (List (List ℕ)) → List (List ℕ) → Option (List (List ℕ))
+used_with (Some used) more = if_short (used ++ more)
+used_with None more = None
+
 -- with those of one object more
 unfoldable pub with_strings : Stored → List (List ℕ) → Stored
-with_strings s more = record s { used = elim s.used [ Some used ↦ if_short (used ++ more) | None ↦ None ] }
+with_strings s more = record s { used = used_with s.used more }
 
 -- with its sections behind those of the objects before
 unfoldable pub with_object : Stored → Input → Stored

@@ -1,5 +1,5 @@
 // The laws of what is filed as a value, each as the contract of a function that does nothing.
-ghost use Rattle.store.specs.Laws.{FilingIsPacking, UnitsInTurn, NeedsFit, EachUnitCounted, FiledFits};
+ghost use Rattle.store.specs.Laws.{FilingIsPacking, UnitsInTurn, NeedsFit, EachUnitCounted, FiledFits, SizesAreLengths, SizesDecide};
 
 // Filing a bundle as a value and writing what is filed is packing.
 #[tactic(auto, using(crate::proofs::Packages::filing_is_packing))]
@@ -27,4 +27,14 @@ pub fn each_unit_counted()
 // What is filed fits into what was counted.
 pub fn filed_fits()
     ensures { FiledFits }
+{}
+
+// The sections that are written are as long as their sizes say.
+pub fn sizes_are_lengths()
+    ensures { SizesAreLengths }
+{}
+
+// By these sizes it is known whether the package is refused by 19, and how long it is.
+pub fn sizes_decide()
+    ensures { SizesDecide }
 {}
