@@ -93,7 +93,7 @@ host: library
 	awk '/^test result: ok/ { passed += $$4; failed += $$6 } END { print "tests of the host: " passed " passed, " failed + 0 " failed" }' "$$out"
 
 # What may be deleted is said by proved functions, but which files they are handed, and what is made of their answers, is the host's doing. Hosts that leave out a file,
-# exchange two or take a no for a yes are tried one by one.
+# exchange two or take a no for a yes are tried one by one, and so are those that lose what was there.
 wrong-hosts: library
 	tools/wrong-hosts
 
