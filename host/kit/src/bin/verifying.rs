@@ -41,8 +41,7 @@ fn measured(name: &str, bundle: &[u8], packages: &[Package]) -> Result<()> {
         packing = packing.min(took);
         output.fill(0);
         for ((_, package), least) in packages.iter().zip(&mut each) {
-            let (code, took) =
-                timed(|| verifying::verify(bundle, (&mut work, &mut output), package, version).code)?;
+            let (code, took) = timed(|| verifying::verify(bundle, (&mut work, &mut output), package, version).code)?;
             *least = (code, least.1.min(took));
         }
     }

@@ -6,7 +6,7 @@ use super::lookups::Lookup;
 use super::measure::Measured;
 use super::pages;
 use super::process::Process;
-use super::releases::{Input, Packed, GNU, LLVM, OURS};
+use super::releases::{Input, Packed, GNU, LLVM, OURS, OURS_SMALL_PAGES};
 use super::sheets::Sheet;
 use super::show::{factor, grouped, head, megabytes, middle, or_dash, quotient, row, time};
 use super::tables::{self, Growth};
@@ -144,11 +144,13 @@ impl Page {
         };
         let releases = self.inputs_of_releases();
         let against = |program: &str| spread(releases.iter().filter_map(|input| input.ours_times(program)).collect());
+        let small = |input: &&Input| input.ours_times(OURS_SMALL_PAGES).map(|times| 1.0 / times);
         vec![
             ("summary_zeros", calls(Measured::with_zeros)),
             ("summary_junk", calls(Measured::with_junk)),
             ("summary_gnu", against(GNU)),
             ("summary_llvm", against(LLVM)),
+            ("summary_small", spread(releases.iter().filter_map(small).collect())),
         ]
     }
 
@@ -297,7 +299,12 @@ mod tests {
             files: 3,
             bytes: 99,
             made_by: "gcc".to_string(),
-            ran: vec![ran(OURS, 3, Wrote::Verified), ran(GNU, 2, Wrote::Verified), ran(LLVM, 2, Wrote::NotVerified)],
+            ran: vec![
+                ran(OURS, 3, Wrote::Verified),
+                ran(OURS_SMALL_PAGES, 6, Wrote::Verified),
+                ran(GNU, 2, Wrote::Verified),
+                ran(LLVM, 2, Wrote::NotVerified),
+            ],
         };
         let hostile = |bundle, times| One { bundle, ours: TOOK * times, thorin: Some(TOOK) };
         let measured = vec![hostile(28 << 10, 20), hostile(1 << 18, 40), hostile(1 << 19, 120)];
@@ -338,6 +345,7 @@ mod tests {
             "| `barthovin_pack` | 1,234 |\n",
             "by the index 3.00 ms; walking 21.0 ms, 7 times as long.",
             "- h: 60.0 ms.\n",
+            "it takes 2.00 to 2.00, 2.00 in the middle, of its own time with them.",
         ];
         wanted.iter().for_each(|row| assert!(text.contains(row), "{row}{text}"));
         assert!(!text.contains("\n\n\n"), "{text}");
