@@ -93,6 +93,8 @@ files_used = record {
   states = (p.first_units_found 5).states false (object_in first_package indexed) (object_in other stringed ∷ []) each_read computed_files.objects
       ∙ ap (λ (n : ℕ). coded (encoding_of false n)) computed_files.word;
   is_absent = p.not_found 5 1 9 3 0 (asked 1 (inl refl)) (record { from = omega arith; to = omega arith }) computed.nine_not_in;
+  abbreviations = p.shared_sections_whole 3 (record { from = omega arith; to = omega arith }) (λ e. omega arith) ∙ computed_files.two_bytes;
+  str_offsets = p.str_offsets_in_length ∙ computed_files.sixteen_bytes;
   one_repeat = p.repeats ∙ computed.repeats;
   one_namesake = p.namesakes ∙ computed.namesakes;
   verified = v.first_units_found.found 2 7 type_unit (asked 2 (inr refl)) type_first;

@@ -1,8 +1,9 @@
 -- The claim from files to the answer: the units of the joined bundle are those of its files, one file's behind the other's, and the rest is said of the bundle.
-use Rattle.std.proofs.Common.{◌≡◌, refl, sym, ap, ◌∙◌, subst, ◌⊎◌, inl, inr, ⊎_elim, Bool, true, false, List, [], ◌∷◌, ◌++◌, map, append_assoc, ℕ, arith}
-use Rattle.octets.specs.Lists.{any, those}
+use Rattle.std.proofs.Common.{◌≡◌, refl, sym, ap, ap₂, ◌∙◌, subst, ◌⊎◌, inl, inr, ⊎_elim, Bool, true, false, List, [], ◌∷◌, ◌++◌, map, append_assoc, ℕ, length, eqb, arith}
+use Rattle.octets.specs.Octets.{part as bytes_at}
+use Rattle.octets.specs.Lists.{joined as concat, any, those}
 use Rattle.octets.proofs.Checks.{known, pass_inj}
-use Rattle.bundle.specs.Bundle.{Object, Bundle, bundle_of}
+use Rattle.bundle.specs.Bundle.{Part, Object, Bundle, bundle_of, parts_of}
 use Rattle.bundle.specs.Encoding.{encoding_of}
 use Rattle.bundle.specs.Written.{Section, Sections}
 use Rattle.package.specs.Input.{input_of, unit_sections}
@@ -19,9 +20,10 @@ use Rattle.sittings.specs.Sittings as sittings
 use Rattle.sittings.proofs.Content.{input_same, units_in_law, holds_units}
 use Rattle.join.specs.Laws.{section_in, object_in, objects_read, objects_in, file_objects, all_objects, ReadIn, EachRead, HoldsAll}
 use Rattle.join.proofs.Joined.{joined_holds}
+use Rattle.archive.specs.NothingLost.{all_in, all_of}
 use Rattle.archive.specs.Theorem.{is_version_of, is_index_version, Asked, AnswersAsHandedIn}
 use Rattle.archive.specs.Verified.{Verified, VerdictIs}
-use Rattle.archive.specs.FromFiles.{UnitsOfFile, UnitsOfFiles, ComesAgain, HandedIn, is_version_for, AskedOf, FirstUnitsFound, FilesPacked, FilesVerified, FromFilesToAnswer}
+use Rattle.archive.specs.FromFiles.{all_from, UnitsOfFile, UnitsOfFiles, ComesAgain, HandedIn, is_version_for, AskedOf, FirstUnitsFound, FilesPacked, FilesVerified, FromFilesToAnswer}
 use Rattle.archive.specs.declared.verifying.Verdict.{Verdict}
 use Rattle.archive.proofs.Contributing.{each_behind}
 use Rattle.archive.proofs.Skipped.{tells_skipped}
@@ -144,6 +146,23 @@ first_object b (o ∷ os) x xs h =
     let z : object_in b o ≡ x = cc in
     (ap (λ (s : Sections). s.word) z, λ e. absurd (let y : ◌≡◌ {A = ℕ} 0 1 = cc in omega arith))
 
+-- ---- the sections of a code
+module _ (b : List ℕ) (code : ℕ) where
+  sections_same : (ps : List Part) → map (λ s. bytes_at b s.start s.size) (parts_of ps code) ≡ map (λ s. s.bytes) (those (λ s. eqb s.code code) (map (section_in b) ps))
+  unfolding parts_of section_in
+  sections_same [] = refl
+  sections_same (p ∷ ps) = go (eqb p.code code) refl (sections_same ps)
+    where
+      go : (t : Bool) → eqb p.code code ≡ t → map (λ s. bytes_at b s.start s.size) (parts_of ps code) ≡ map (λ s. s.bytes) (those (λ s. eqb s.code code) (map (section_in b) ps))
+          → map (λ s. bytes_at b s.start s.size) (parts_of (p ∷ ps) code) ≡ map (λ s. s.bytes) (those (λ s. eqb s.code code) (map (section_in b) (p ∷ ps)))
+      go true t h = rw (parts_of, those, t) (ap (λ (l : List (List ℕ)). bytes_at b p.start p.size ∷ l) h)
+      go false t h = rw (parts_of, those, t) h
+
+  all_same : (os : List Object) → all_in code b os ≡ all_from code (map (object_in b) os)
+  unfolding all_in all_from object_in
+  all_same [] = refl
+  all_same (o ∷ os) = ap₂ (λ (s : List (List ℕ)) (t : List ℕ). concat s ++ t) (sections_same o.parts) (all_same os)
+
 -- ---- files joined to a bundle that is packed
 module _ (f : List ℕ) (fs : List (List ℕ)) (b : List ℕ) (h : HoldsAll b (f ∷ fs)) where
   asked_of : (v table : ℕ) → AskedOf (f ∷ fs) v table → Asked b v table
@@ -152,6 +171,10 @@ module _ (f : List ℕ) (fs : List (List ℕ)) (b : List ℕ) (h : HoldsAll b (f
     version = rw (h.read, is_index_version) (version_same b h.bundle.objects v ∙ ap (λ (os : List Sections). is_version_for os v) h.objects ∙ q.version);
     tables = q.tables;
   }
+
+  all_of_files : (code : ℕ) → all_of code b ≡ all_from code (all_objects (f ∷ fs))
+  unfolding all_of
+  all_of_files code = rw (h.read, all_of) (all_same b code h.bundle.objects ∙ ap (all_from code) h.objects)
 
   same_big : (big : Bool) → EachRead big (f ∷ fs) → h.bundle.big ≡ big
   unfolding EachRead
@@ -218,6 +241,8 @@ module _ (f : List ℕ) (fs : List (List ℕ)) (b : List ℕ) (h : HoldsAll b (f
       not_found = λ v table x code k q is none.
           let r = d.absent_is_absent v table x code k (asked_of v table q) is none in
           ((_, r.0), (_, r.1));
+      shared_sections_whole = λ code is other. d.shared_sections_whole code is other ∙ all_of_files code;
+      str_offsets_in_length = d.str_offsets_in_length ∙ ap length (all_of_files 6);
       repeats = tells_skipped.repeated b w o ∙ told_repeats;
       namesakes = tells_skipped.named b w o ∙ told_namesakes;
     }

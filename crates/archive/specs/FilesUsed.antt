@@ -1,5 +1,5 @@
 -- The claim on files, used of two small ones: what it says there, worked out.
-use Rattle.std.specs.Prelude.{◌≡◌, ◌⊎◌, false, List, [], ◌∷◌, ℕ, ◌+◌, if◌then◌else◌, Option, Some, None}
+use Rattle.std.specs.Prelude.{◌≡◌, ◌⊎◌, false, List, [], ◌∷◌, ℕ, ◌+◌, length, if◌then◌else◌, Option, Some, None}
 use Rattle.octets.specs.Octets.{numbers_of, part as bytes_at}
 use Rattle.octets.specs.Lists.{any, has}
 use Rattle.bundle.specs.Bundle.{Part, body}
@@ -15,6 +15,7 @@ use Rattle.lookup.specs.Lookup.{part, looked_up, string_found}
 use Rattle.lookup.specs.Answers.{coded, package_in}
 use Rattle.elf.specs.Writer.{amd64, file_bytes}
 use Rattle.archive.specs.Contributing.{Contributes}
+use Rattle.archive.specs.NothingLost.{all_of}
 use Rattle.archive.specs.Verified.{Holding, HasUnit}
 use Rattle.archive.specs.FromFiles.{UnitsOfFiles, ComesAgain, IsAbsent}
 
@@ -157,6 +158,8 @@ pub record EveryFileClauseUsed : Type 0 where
   pub its_string : Holding their_package (string_found their_package 5 1 2 0) (98 ∷ [])
   pub states : coded (package_in their_package).encoding ≡ coded (encoding_of false 0x1008_0405)
   pub is_absent : IsAbsent (looked_up their_package 5 1 9 3) × IsAbsent (string_found their_package 5 1 9 0)
+  pub abbreviations : all_of 3 their_package ≡ 0 ∷ 0 ∷ []
+  pub str_offsets : length (all_of 6 their_package) ≡ 16
   pub one_repeat : (told all_joined (packed all_joined 1240 324)).repeats ≡ 1
   pub one_namesake : (told all_joined (packed all_joined 1240 324)).namesakes ≡ 1
   -- the same package verified

@@ -1,8 +1,9 @@
 -- The claim, from a list of files to the answer. Each file is taken by itself, as its own reader gives it: nothing is said of the bundle that the files are joined to but
 -- that it was packed, or that a package was verified against it.
-use Rattle.std.specs.Prelude.{◌≡◌, ◌⊎◌, Bool, true, false, ◌||◌, List, [], ◌∷◌, ◌++◌, ℕ, ◌+◌, ◌%◌, length, ◌==◌, if◌then◌else◌, Ok}
+use Rattle.std.specs.Prelude.{◌≡◌, ◌⊎◌, Bool, true, false, ◌||◌, List, [], ◌∷◌, ◌++◌, map, ℕ, ◌+◌, ◌%◌, length, ◌==◌, if◌then◌else◌, Ok}
+use Rattle.numbers.specs.Sections.{str_offsets_code}
 use Rattle.numbers.specs.Tables.{compilation_table, type_table, dwarf5, index2, index5}
-use Rattle.octets.specs.Lists.{any}
+use Rattle.octets.specs.Lists.{joined, those, any}
 use Rattle.bundle.specs.Bundle.{Bundle, bundle_of}
 use Rattle.bundle.specs.Encoding.{encoding_of}
 use Rattle.bundle.specs.Written.{Sections}
@@ -15,7 +16,8 @@ use Rattle.lookup.specs.Lookup.{Found, absent, package_of, looked_up, string_fou
 use Rattle.lookup.specs.Answers.{coded, package_in}
 use Rattle.join.specs.Join.{file_bundle}
 use Rattle.join.specs.Laws.{joined_all, all_objects, AllBytes, EachRead}
-use Rattle.archive.specs.Contributing.{Contributes}
+use Rattle.archive.specs.Contributing.{IsShared, Contributes}
+use Rattle.archive.specs.NothingLost.{all_of}
 use Rattle.archive.specs.Theorem.{FirstOf, IsCode}
 use Rattle.archive.specs.Verified.{HasUnit, VerdictIs}
 use Rattle.archive.specs.declared.verifying.Verdict.{Verdict}
@@ -51,6 +53,11 @@ pub record HandedIn (fs : List (List ℕ)) (us : List Filed) : Type 0 where
   -- what a first one contributes of its object's sections, of which its parts are made
   pub what_it_contributes : (table x : ℕ) (u : Filed) → (first : FirstOf us table x u) → Contributes first.before u
 
+-- the bytes of all sections of a code that objects have, joined: object by object, section by section
+unfoldable pub all_from : ℕ → List Sections → List ℕ
+all_from code [] = []
+all_from code (o ∷ os) = joined (map (λ s. s.bytes) (those (λ s. s.code == code) o.sections)) ++ all_from code os
+
 -- ---- what is asked
 -- the index version that belongs to the objects: 5 to version 5, else 2, and both to no objects
 unfoldable pub is_version_for : List Sections → ℕ → Bool
@@ -82,6 +89,9 @@ pub record FilesPacked (fs : List (List ℕ)) (us : List Filed) (p : List ℕ) (
   -- where there is no unit, none is found
   pub not_found : (v table x code k : ℕ) → AskedOf fs v table → IsCode code → any (is_under table x) us ≡ false
       → IsAbsent (looked_up p v table x code) × IsAbsent (string_found p v table x k)
+  -- p has all bytes of the shared sections that the files' objects have, and no others; of str_offsets, whose entries are other numbers there, as many
+  pub shared_sections_whole : (code : ℕ) → IsShared code → (code ≡ str_offsets_code → ⊥) → all_of code p ≡ all_from code (all_objects fs)
+  pub str_offsets_in_length : length (all_of str_offsets_code p) ≡ length (all_from str_offsets_code (all_objects fs))
   -- those that come again were told
   pub repeats : r.repeats ≡ count_of repeat us
   pub namesakes : r.namesakes ≡ count_of namesake us
