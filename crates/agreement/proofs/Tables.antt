@@ -2,7 +2,6 @@
 use Rattle.std.proofs.Common.{◌≡◌, refl, sym, ap, Bool, true, false, ◌&&◌, List, ℕ, arith, length}
 use mathlib.Core.Bool.{beq}
 use Rattle.std.specs.Prelude.{Option, Some, None}
-use Rattle.octets.specs.Options.{found}
 use Rattle.bundle.specs.Bundle.{body}
 use Rattle.index.specs.Index.{Index}
 use Rattle.index.proofs.Heads.{well_facts}
@@ -14,23 +13,19 @@ use Rattle.lookup.proofs.Known.{index_known}
 use Rattle.octets.proofs.Checks.{and_left, and_right}
 use Rattle.agreement.specs.Agreement.{IndexAgrees, TableAgrees, same_encoding}
 
-pub there : (o : Option Index) (i : Index) → Some i ≡ found o → o ≡ Some i
-there (Some b) i e = cc
-there None i e = absurd (let z : ◌≡◌ {A = ℕ} 0 1 = cc in omega arith)
-
 pub even : (p : List ℕ) (h : PackageHead) → Opened p h → (table : ℕ) (i : Index) → index_for (package_in p) table ≡ Some i → length i.identities ≡ length i.rows
 even p h o table i e =
     let k = package_in p in
     (well_facts (record { big = k.encoding.big; bytes = body p k.parts (index_code table); is = index_known p k o.is table i e })).identities
 
 -- every index of the table is that one
-pub all_of_some : (p q : List ℕ) (v table : ℕ) (i : Index) → Some i ≡ found (index_for (package_in q) table) → IndexAgrees p q v table i → TableAgrees p q v table
+pub all_of_some : (p q : List ℕ) (v table : ℕ) (i : Index) → Some i ≡ index_for (package_in q) table → IndexAgrees p q v table i → TableAgrees p q v table
 all_of_some p q v table i e a j f =
-    let s : i ≡ j = let t = there _ i e in cc in
+    let s : i ≡ j = let t = sym e in cc in
     rw (sym s) a
 
-pub all_of_none : (p q : List ℕ) (v table : ℕ) → None ≡ found (index_for (package_in q) table) → TableAgrees p q v table
-all_of_none p q v table e j f = absurd (let g = ap found f in let z : ◌≡◌ {A = ℕ} 0 1 = cc in omega arith)
+pub all_of_none : (p q : List ℕ) (v table : ℕ) → None ≡ index_for (package_in q) table → TableAgrees p q v table
+all_of_none p q v table e j f = absurd (let z : ◌≡◌ {A = ℕ} 0 1 = cc in omega arith)
 
 -- ---- what both state
 beq_true : (a b : Bool) → beq a b ≡ true → a ≡ b

@@ -1,5 +1,5 @@
 -- The three kinds of answer of a call that writes into a lent output: a refusal's number, the length needed where the output is too short, and what is written.
-use Rattle.std.specs.Prelude.{true, false, List, ℕ, ◌-◌, length, nat_le, if◌then◌else◌, Result, Ok, Err}
+use Rattle.std.specs.Prelude.{List, ℕ, ◌-◌, length, nat_le, if◌then◌else◌, Result, Ok, Err}
 use Rattle.octets.specs.Octets.{padded, zeros}
 use Rattle.numbers.specs.Refusals.{output_short}
 use Rattle.answers.specs.declared.Written.{Written}

@@ -1,6 +1,5 @@
 // Forms and their widths, rising.
 ghost use Rattle.std.specs.Prelude.{◌≡◌, option_map};
-ghost use Rattle.octets.specs.Options.{found};
 ghost use Rattle.unit.specs.Widths.{width_is};
 ghost use Rattle.archive_tables.specs.FormRule.{width_by_rule};
 
@@ -13,7 +12,7 @@ const FORM_LIMIT: u64 = 0x1F03;
 // Each width with its forms, by their names.
 #[tactic(auto, unfolding(octets::specs::Lists::has, unit::specs::Widths::width_is, crate::specs::FormRule::classes, crate::specs::FormRule::width_among, crate::specs::FormRule::width_by_rule))]
 fn width_by_rule(form: u64) -> Option<Width>
-    ensures { option_map width_is result ≡ found (width_by_rule form) }
+    ensures { option_map width_is result ≡ width_by_rule form }
 {
     match form {
         // flag_present

@@ -2,7 +2,6 @@
 use Rattle.std.proofs.Common.{◌≡◌, refl, ap, sym, ◌∙◌, Bool, true, false, List, [], ◌∷◌, ◌++◌, append-nil, ℕ, ◌+◌, ◌≤◌, ◌<◌, arith, length, drop, eq-eqb, ne_eqb}
 use Rattle.std.specs.Prelude.{Option, Some, None, Result, Ok, Err}
 use native.Mathlib.Decide.{ℕ_discrete}
-use Rattle.octets.specs.Options.{found}
 use Rattle.octets.specs.Lists.{those}
 use Rattle.octets.proofs.Lists.{those_keeps, those_skips}
 use Rattle.bundle.specs.Bundle.{Part, Item, object, section, more, filled_up, step_at, items, leading}
@@ -92,15 +91,6 @@ module _ (b : List ℕ) (from at : ℕ) (k : Seeking b from at) where
   seeking_refused n e = absurd (left_broken b at k.ahead k.left (broken_here b at n e))
 
 pub ruleset seeking = (section_nearer, seeking_none, seeking_found, seeking_more, seeking_other, seeking_refused)
-
--- ---- what `next_unit_section` answers, as the definition says it
-pub found_some : {A : Type 0} (x : A) (m : Option A) → Some x ≡ found m → Some x ≡ m
-found_some x (Some y) e = cc
-found_some x None e = absurd (let z : ◌≡◌ {A = ℕ} 0 1 = cc in omega arith)
-
-pub found_none : {A : Type 0} (m : Option A) → None ≡ found m → None ≡ m
-found_none (Some y) e = absurd (let z : ◌≡◌ {A = ℕ} 0 1 = cc in omega arith)
-found_none None e = refl
 
 -- ---- a loop over all of them: each law takes an answer of `next_unit_section`
 -- what an answer says of the place behind the section

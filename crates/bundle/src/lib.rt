@@ -7,7 +7,6 @@ pub mod initial_length;
 ghost use Rattle.std.specs.Prelude.{◌≡◌, Bool, [], ◌++◌, ℕ, ◌+◌, ◌*◌, ◌-◌, ◌/◌, ◌%◌, ◌≤◌, ◌<◌, length, drop};
 ghost use Rattle.octets.specs.Octets.{placed};
 ghost use Rattle.octets.specs.Checked.{mapped};
-ghost use Rattle.octets.specs.Options.{found};
 ghost use Rattle.numbers.specs.Refused.{told};
 ghost use Rattle.bundle.specs.Written.{word_bytes, head_bytes, end_bytes};
 ghost use Rattle.bundle.specs.Bundle.{
@@ -270,7 +269,7 @@ pub fn scan_object(b: &[u8], from: usize) -> Scan
 #[tactic(auto, using(crate::proofs::Units::seeking))]
 pub fn next_unit_section(b: &[u8], from: usize) -> Option<Section>
     requires { Reaches b.now from }
-    ensures { result ≡ found (unit_section_of (sections_of (items from (drop from b.now)))) }
+    ensures { result ≡ unit_section_of (sections_of (items from (drop from b.now))) }
 {
     let mut at = from;
     // By hand: each section says where the next item starts.

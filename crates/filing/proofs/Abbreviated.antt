@@ -21,8 +21,6 @@ use Rattle.index.specs.Index.{Index, Contribution, cell_of}
 use Rattle.index.specs.Rows.{naming, the_one, abbrev_part}
 use Rattle.index.specs.Cells.{cell_found}
 use Rattle.index.specs.declared.cells.Contribution as cell
-use Rattle.octets.specs.Options.{found}
-use Rattle.bundle.proofs.Units.{found_some, found_none}
 use Rattle.kept.specs.Regions.{codes_region, Only}
 use Rattle.kept.proofs.RegionStores.{codes_within}
 use Rattle.package.specs.Input.{Input}
@@ -107,18 +105,18 @@ module _ (b : List ℕ) (x : InputObject) (i : Input) (is : InputIs b x i) (home
   section = part b (get_or x.start 3 0) (get_or x.size 3 0)
 
   -- in the whole section
-  pub given_whole : None ≡ found (index_by_place i home)
+  pub given_whole : None ≡ index_by_place i home
       → AbbreviationsAre b (abbreviations_for i home at size) (Ok (record { at = get_or x.start 3 0; end = get_or x.start 3 0 + get_or x.size 3 0 }))
   unfolding abbreviations_for section_of
   given_whole e =
-      let q : index_by_place i home ≡ None = sym (found_none _ e) in
+      let q : index_by_place i home ≡ None = sym e in
       tells_pass _ (i.bytes 3) (rw (abbreviations_for, q))
       (record { is = part_cut b (get_or x.start 3 0) (get_or x.size 3 0) ∙ sym (is.bytes 3 (omega arith)); lies = (omega arith, is.within 3) })
 
-  module _ (idx : Index) (e : Some idx ≡ found (index_by_place i home)) where
+  module _ (idx : Index) (e : Some idx ≡ index_by_place i home) where
     by_row : abbreviations_for i home at size ≡ (the_one (naming idx at size) >>= λ k. abbrev_part idx k (i.bytes 3))
     unfolding abbreviations_for
-    by_row = rw (abbreviations_for, ← found_some idx _ e)
+    by_row = rw (abbreviations_for, ← e)
 
     pub given_none : (r : Refusal) → Err (number_of r) ≡ the_one (naming idx at size) → AbbreviationsAre b (abbreviations_for i home at size) (Err r)
     given_none r z = tells_refuse r (by_row ∙ then_refuse _ _ (number_of r) (sym z))

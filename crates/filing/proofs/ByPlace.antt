@@ -19,8 +19,6 @@ use Rattle.kept.proofs.RegionStores.{rows_within}
 use Rattle.package.specs.Input.{Input}
 use Rattle.package.specs.Filing.{index_by_place}
 use Rattle.filing.specs.declared.input.InputObject.{InputObject}
-use Rattle.octets.specs.Options.{found}
-use Rattle.bundle.proofs.Units.{found_some, found_none}
 use Rattle.filing.specs.declared.units.Reading.{Reading}
 use Rattle.filing.specs.Judged.{section_of, Indexed, IndexedIs, InputIs}
 use Rattle.filing.specs.State.{words_in}
@@ -81,11 +79,11 @@ module _ (b : List ℕ) (x : InputObject) (i : Input) (is : InputIs b x i) (home
 pub ruleset by_place_cases = (by_place_cu, by_place_none)
 
 -- ---- their chains
-pub chained_nowhere : (r : Reading) (w : List ℕ) → ((i : Input) → InputIs r.bundle.now r.object.now i → None ≡ found (index_by_place i r.section.home)) → RowsChained r w
+pub chained_nowhere : (r : Reading) (w : List ℕ) → ((i : Input) → InputIs r.bundle.now r.object.now i → None ≡ index_by_place i r.section.home) → RowsChained r w
 unfolding ChainsHeld
-chained_nowhere r w e i is = rw (← found_none (index_by_place i r.section.home) (e i is)) tt
+chained_nowhere r w e i is = rw (← e i is) tt
 
-module _ {r : Reading} {w : List ℕ} (p : ChainAsked r w) (idx : Index) (e : (i : Input) → InputIs r.bundle.now r.object.now i → Some idx ≡ found (index_by_place i r.section.home))
+module _ {r : Reading} {w : List ℕ} (p : ChainAsked r w) (idx : Index) (e : (i : Input) → InputIs r.bundle.now r.object.now i → Some idx ≡ index_by_place i r.section.home)
     (from many : ℕ) (ef : from ≡ rows_region.start * words_in r.bundle.now) (em : many ≡ rows_region.words * words_in r.bundle.now) where
   abbrev n : ℕ
   n = words_in r.bundle.now
@@ -96,20 +94,20 @@ module _ {r : Reading} {w : List ℕ} (p : ChainAsked r w) (idx : Index) (e : (i
   pub chain_asks : (idx.units < 2 ^ 32) × (heads + idx.units ≤ length (take (from + many - from) (drop from w)))
   unfolding heads_for
   chain_asks =
-      let few = few_rows r.bundle.now r.object.now p.input p.is r.section.home idx (sym (found_some idx _ (e p.input p.is))) in
+      let few = few_rows r.bundle.now r.object.now p.input p.is r.section.home idx (sym (e p.input p.is)) in
       (omega (arith, few, p.work.limit), omega (arith, few, r.order, r.within, p.work.words, lent_length rows_region rows_within n from many w p.work.room ef em))
 
   pub chains_left : (words v : List ℕ) → length words ≡ length (take (from + many - from) (drop from w)) → v ≡ put_mid from (from + many - from) w words
       → Chained idx info_code heads words → RowsChained r v
   unfolding ChainsHeld
   chains_left words v same is c i k =
-      rw (← found_some idx _ (e i k))
+      rw (← e i k)
       (subst (λ (l : List ℕ). Chained idx info_code heads l) (sym (lent_left rows_region rows_within n from many w p.work.room ef em words v same is)) c)
 
 -- ---- a place in them
-module _ {r : Reading} {at : ℕ} {w : List ℕ} (p : PlaceAsked r at w) (c : RowsChained r w) (idx : Index) (e : Some idx ≡ found (index_by_place p.input r.section.home)) where
+module _ {r : Reading} {at : ℕ} {w : List ℕ} (p : PlaceAsked r at w) (c : RowsChained r w) (idx : Index) (e : Some idx ≡ index_by_place p.input r.section.home) where
   pub row_asks : (n : ℕ) (rows : List ℕ) → n ≡ heads_for r.section → rows ≡ region w (words_in r.bundle.now) rows_region → ((at - r.section.start) / 4 < n) × Chained idx info_code n rows
   unfolding heads_for ChainsHeld
-  row_asks n rows many are = rw (many, are) (omega (arith, p.from, p.low), subst (ChainsHeld (heads_for r.section) (region w (words_in r.bundle.now) rows_region)) (sym (found_some idx _ e)) (c p.input p.is))
+  row_asks n rows many are = rw (many, are) (omega (arith, p.from, p.low), subst (ChainsHeld (heads_for r.section) (region w (words_in r.bundle.now) rows_region)) (sym e) (c p.input p.is))
 
 pub ruleset chain_cases = (chained_nowhere, only_same)

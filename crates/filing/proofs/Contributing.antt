@@ -27,8 +27,6 @@ use Rattle.filing.proofs.Telling.{tells_pass, tells_refuse, tells_value}
 use Rattle.filing.proofs.Entering.{five_is}
 use Rattle.filing.specs.Contributing.{whole_given, contributions_by, GivenIs}
 use Rattle.filing.specs.declared.input.InputObject.{InputObject}
-use Rattle.octets.specs.Options.{found}
-use Rattle.bundle.proofs.Units.{found_some, found_none}
 use Rattle.index.specs.Contributed.{Answers}
 
 -- ---- an index by value, as code holds it
@@ -38,14 +36,14 @@ module _ (big : Bool) (s : List ℕ) (indexed : Indexed) where
   index_well None is head e = absurd (rw e at is)
   index_well (Some y) is head e = let h : ReadWell big s head × (y ≡ index_in big s head) = rw e at is in (h.0, ap Some h.1)
 
-  pub held_none : (o : Option Index) → IndexedIs big s indexed o → indexed ≡ None → None ≡ found o
+  pub held_none : (o : Option Index) → IndexedIs big s indexed o → indexed ≡ None → None ≡ o
   unfolding IndexedIs
   held_none None is e = refl
   held_none (Some y) is e = absurd (rw e at is)
 
   module _ (o : Option Index) (is : IndexedIs big s indexed o) (head : IndexHead) (e : indexed ≡ Some head) where
-    pub held_some : Some (index_in big s head) ≡ found o
-    held_some = ap found (sym (index_well o is head e).1)
+    pub held_some : Some (index_in big s head) ≡ o
+    held_some = sym (index_well o is head e).1
 
     pub held_sized : Sized s head
     held_sized = read_sized big s head (index_well o is head e).0
@@ -64,13 +62,13 @@ answers_given (Err n) (Ok k) h = absurd h
 answers_given (Err n) (Err e) h = tells_refuse e (ap Err (sym h))
 
 module _ (packed : Bool) (o : Option Index) (width : ℕ) (ls : BySection ℕ) (x home at size : ℕ) (r : Result Contributions Refusal) where
-  pub given_none : None ≡ found o → GivenIs (whole_given packed ls) r → GivenIs (contributions_by packed o width ls x home at size) r
+  pub given_none : None ≡ o → GivenIs (whole_given packed ls) r → GivenIs (contributions_by packed o width ls x home at size) r
   unfolding contributions_by
-  given_none e k = rw (← found_none o e) k
+  given_none e k = rw (← e) k
 
-  pub given_some : (i : Index) → Some i ≡ found o → Answers r (row_contributions i width ls x home at size) → GivenIs (contributions_by packed o width ls x home at size) r
+  pub given_some : (i : Index) → Some i ≡ o → Answers r (row_contributions i width ls x home at size) → GivenIs (contributions_by packed o width ls x home at size) r
   unfolding contributions_by
-  given_some i e k = rw (← found_some i o e) (answers_given (row_contributions i width ls x home at size) r k)
+  given_some i e k = rw (← e) (answers_given (row_contributions i width ls x home at size) r k)
 
 -- without an index
 pub whole_fifteen : (packed : Bool) (ls : BySection ℕ) → packed ≡ true → GivenIs (whole_given packed ls) (Err NoRow)

@@ -24,8 +24,6 @@ use Rattle.package.specs.Pieces.{used_in, pieces_of}
 use Rattle.filing.specs.declared.input.InputObject.{InputObject}
 use Rattle.filing.specs.Judged.{section_of}
 use Rattle.filing.specs.ByObject.{StringsPut, StringsAre}
-use Rattle.octets.specs.Options.{found}
-use Rattle.bundle.proofs.Units.{found_some, found_none}
 use Rattle.numbers.specs.Refused.{number_of}
 use Rattle.numbers.specs.declared.refusals.Refusal.{Refusal}
 use Rattle.numbers.specs.declared.refusals.Refusal.TheVariants.{BadStrOffsets, BadParts}
@@ -35,12 +33,12 @@ use Rattle.filing.proofs.GoodParts.{good_parts, Judged, parts_judged, Ending, pa
 
 -- ---- the parts of one index
 module _ (o : Option Index) (cs : List Contribution) (ms : List ℕ) where
-  pub marked_none : None ≡ found o → Marks cs ms → Marked (named o ++ cs) ms ms true
+  pub marked_none : None ≡ o → Marks cs ms → Marked (named o ++ cs) ms ms true
   unfolding named
-  marked_none e m = rw (← found_none o e) (record { good = λ _. m; bad = λ y. absurd (true_false refl y) })
+  marked_none e m = rw (← e) (record { good = λ _. m; bad = λ y. absurd (true_false refl y) })
 
-  pub marked_some : (i : Index) → Some i ≡ found o → (ns : List ℕ) (r : Bool) → Marked (named (Some i) ++ cs) ms ns r → Marked (named o ++ cs) ms ns r
-  marked_some i e ns r k = subst (λ (p : Option Index). Marked (named p ++ cs) ms ns r) (found_some i o e) k
+  pub marked_some : (i : Index) → Some i ≡ o → (ns : List ℕ) (r : Bool) → Marked (named (Some i) ++ cs) ms ns r → Marked (named o ++ cs) ms ns r
+  marked_some i e ns r k = subst (λ (p : Option Index). Marked (named p ++ cs) ms ns r) e k
 
 -- ---- of both; those of the second are marked first
 module _ (cs ds : List Contribution) (ms : List ℕ) where

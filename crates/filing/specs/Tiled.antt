@@ -17,7 +17,6 @@ use Rattle.index.proofs.Tiles.{Tiling}
 use Rattle.places.specs.Marks.{Marks, Marked, good_end}
 use Rattle.package.specs.Pieces.{used_in, pieces_of}
 use Rattle.filing.specs.declared.input.InputObject.{InputObject}
-use Rattle.octets.specs.Options.{found}
 use Rattle.filing.specs.Judged.{section_of, IndexedIs}
 use Rattle.filing.specs.State.{words_in}
 use Rattle.filing.specs.Tells.{Tells}
@@ -35,7 +34,7 @@ pub record PartsAsked (b : List ℕ) (x : InputObject) : Type 0 where
 
 -- the parts that the rows of an index name are marked, beside those that are; ms are the marks before, ns those after it
 abbrev pub IndexMarked : code.Option Index → List ℕ → List ℕ → Bool → Type 0
-IndexMarked index ms ns r = (o : Option Index) (cs : List Contribution) → index ≡ found o → Marks cs ms → Marked (named o ++ cs) ms ns r
+IndexMarked index ms ns r = (o : Option Index) (cs : List Contribution) → index ≡ o → Marks cs ms → Marked (named o ++ cs) ms ns r
 
 -- the parts that both indexes name are marked; ms are the marks before, ns those after it
 abbrev pub BothMarked : List ℕ → InputObject → List ℕ → List ℕ → Bool → Type 0

@@ -1,6 +1,5 @@
 // 15 and 16: what a unit that is kept contributes of its object's shared sections.
 ghost use Rattle.std.specs.Prelude.{◌≡◌, ◌<◌, IfSome};
-ghost use Rattle.octets.specs.Options.{found};
 ghost use Rattle.numbers.specs.Tabled.{table_number};
 ghost use Rattle.std.specs.Prelude.{Option};
 ghost use Rattle.index.specs.Index.{Index};
@@ -39,7 +38,7 @@ fn indexed_contributions(
     u: OwnUnit,
 ) -> Result<Contributions, Refusal>
     requires { IfSome index Well }
-    ensures { (o : Option Index) → index.entry ≡ found o → GivenBy packed o m u result }
+    ensures { (o : Option Index) → index.entry ≡ o → GivenBy packed o m u result }
 {
     match index {
         Some(index) => index.judge_row(m, u),
@@ -52,7 +51,7 @@ impl InputObject {
     #[tactic(auto, unfolding(package::specs::Filing::index_for))]
     fn index_for<'a>(&self, b: &'a [u8], table: Table) -> Option<Index<'a>>
         requires { (i : Input) × InputIs b.now self.now i }
-        ensures is { (i : Input) → InputIs b.now self.now i → result ≡ found (index_for i (table_number table)) }
+        ensures is { (i : Input) → InputIs b.now self.now i → result ≡ index_for i (table_number table) }
         ensures well { IfSome result Well }
     {
         let big = self.encoding.big;

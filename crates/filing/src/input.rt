@@ -1,7 +1,6 @@
 // One object, judged up to its units: 4 to 7 and 10. What it answers is by value; the bytes stay in the bundle.
 ghost use Rattle.std.specs.Prelude.{◌≡◌, List, ℕ, ◌+◌, ◌<◌, ◌≤◌, length, IfSome, nat_le, slice_index};
 ghost use Rattle.std.specs.Prelude.{Option};
-ghost use Rattle.octets.specs.Options.{found};
 ghost use Rattle.index.specs.Index.{Index};
 ghost use Rattle.index.specs.Held.{Well};
 ghost use Rattle.numbers.specs.Sections.{section_codes};
@@ -63,7 +62,7 @@ impl InputObject {
 #[tactic(auto, using(crate::proofs::Contributing::held_cases))]
 pub fn held<'a>(big: bool, s: &'a [u8], indexed: Option<IndexHead>) -> Option<Index<'a>>
     requires { (o : Option Index) × IndexedIs big s.now indexed o }
-    ensures is { (o : Option Index) → IndexedIs big s.now indexed o → result ≡ found o }
+    ensures is { (o : Option Index) → IndexedIs big s.now indexed o → result ≡ o }
     ensures well { IfSome result Well }
 {
     let head = indexed?;

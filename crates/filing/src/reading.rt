@@ -2,7 +2,6 @@
 // row's part alone.
 ghost use Rattle.std.specs.Prelude.{◌≡◌, List, ℕ, ◌+◌, ◌≤◌, ◌<◌, ◌^◌, length};
 ghost use Rattle.octets.specs.Octets.{part};
-ghost use Rattle.octets.specs.Options.{found};
 ghost use Rattle.package.specs.Input.{Input};
 ghost use Rattle.package.specs.Filing.{index_by_place};
 ghost use Rattle.filing.specs.Judged.{InputIs};
@@ -60,7 +59,7 @@ impl<'a> Reading<'a> {
     #[tactic(auto, using(crate::proofs::ByPlace::by_place_cases))]
     fn index_by_place(&self) -> Option<Index<'a>>
         requires { (i : Input) × InputIs self.now.bundle.now self.now.object.now i }
-        ensures { (i : Input) → InputIs self.now.bundle.now self.now.object.now i → result ≡ found (index_by_place i self.now.section.home) }
+        ensures { (i : Input) → InputIs self.now.bundle.now self.now.object.now i → result ≡ index_by_place i self.now.section.home }
     {
         let x = self.object;
         if !x.encoding.five && self.section.home == INFO {

@@ -6,12 +6,11 @@ use Rattle.octets.proofs.Checks.{known}
 use Rattle.index.specs.Columns.{Column, columns_of, column_in}
 use Rattle.index.specs.Index.{Index, place_of, cell_at, cell_of}
 use Rattle.std.specs.Option.{option_map}
-use Rattle.octets.specs.Options.{found}
 use Rattle.index.specs.Cells.{column_place, cell_found}
 
 -- a search for a section's column
 pub column_finds : (cs : List Column) (section : ℕ)
-    → option_map (λ c. c.column) (find (λ c. eqb c.section section) (map column_place cs)) ≡ found (column_in cs section)
+    → option_map (λ c. c.column) (find (λ c. eqb c.section section) (map column_place cs)) ≡ column_in cs section
 unfolding column_in column_place
 column_finds [] section = refl
 column_finds (c ∷ cs) section = ⊎_elim (λ (p : eqb c.section section ≡ true). rw (column_in, p)) (λ (p : eqb c.section section ≡ false). rw (column_in, p) (column_finds cs section)) (known (eqb c.section section))
@@ -52,38 +51,34 @@ cell_lt (suc r) units columns k h g l =
     rw e (omega (arith, mul-le-mul_right columns g))
 
 module _ (i : Index) (row section : ℕ) where
-  pub cell_no_column : None ≡ found (column_in (columns_of i.version) section) → None ≡ cell_found (cell_of i row section)
+  pub cell_no_column : None ≡ column_in (columns_of i.version) section → None ≡ cell_found (cell_of i row section)
   unfolding cell_of cell_found
   cell_no_column e = go (column_in (columns_of i.version) section) refl e
     where
-      go : (o : Option ℕ) → column_in (columns_of i.version) section ≡ o → None ≡ found o → None ≡ cell_found (cell_of i row section)
+      go : (o : Option ℕ) → column_in (columns_of i.version) section ≡ o → None ≡ o → None ≡ cell_found (cell_of i row section)
       go None p q = rw (cell_of, p)
       go (Some c) p q = absurd (let z : ◌≡◌ {A = ℕ} 0 1 = cc in omega arith)
 
-  module _ (code : ℕ) (c : Some code ≡ found (column_in (columns_of i.version) section)) where
+  module _ (code : ℕ) (c : Some code ≡ column_in (columns_of i.version) section) where
     pub cell_by_place : cell_of i row section ≡ cell_at i row (place_of i.codes code)
     unfolding cell_of
     cell_by_place = go (column_in (columns_of i.version) section) refl c
       where
-        go : (o : Option ℕ) → column_in (columns_of i.version) section ≡ o → Some code ≡ found o → cell_of i row section ≡ cell_at i row (place_of i.codes code)
+        go : (o : Option ℕ) → column_in (columns_of i.version) section ≡ o → Some code ≡ o → cell_of i row section ≡ cell_at i row (place_of i.codes code)
         go None p q = absurd (let z : ◌≡◌ {A = ℕ} 0 1 = cc in omega arith)
         go (Some d) p q = let s : code ≡ d = cc in rw (cell_of, p, s)
 
-    pub cell_no_place : None ≡ found (place_of i.codes code) → None ≡ cell_found (cell_of i row section)
+    pub cell_no_place : None ≡ place_of i.codes code → None ≡ cell_found (cell_of i row section)
     unfolding cell_at cell_found
     cell_no_place e = go (place_of i.codes code) refl e
       where
-        go : (o : Option ℕ) → place_of i.codes code ≡ o → None ≡ found o → None ≡ cell_found (cell_of i row section)
+        go : (o : Option ℕ) → place_of i.codes code ≡ o → None ≡ o → None ≡ cell_found (cell_of i row section)
         go None p q = rw (cell_by_place, p)
         go (Some d) p q = absurd (let z : ◌≡◌ {A = ℕ} 0 1 = cc in omega arith)
 
-    module _ (k : ℕ) (e : Some k ≡ found (place_of i.codes code)) where
+    module _ (k : ℕ) (e : Some k ≡ place_of i.codes code) where
       pub place_is : place_of i.codes code ≡ Some k
-      place_is = go (place_of i.codes code) refl e
-        where
-          go : (o : Option ℕ) → place_of i.codes code ≡ o → Some k ≡ found o → place_of i.codes code ≡ Some k
-          go None p q = absurd (let z : ◌≡◌ {A = ℕ} 0 1 = cc in omega arith)
-          go (Some d) p q = let s : k ≡ d = cc in rw s p
+      place_is = sym e
 
       pub cell_there : cell_of i row section ≡ cell_at i row (Some k)
       cell_there = cell_by_place ∙ ap (cell_at i row) place_is

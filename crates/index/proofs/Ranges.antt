@@ -6,7 +6,6 @@ use Rattle.std.specs.Prelude.{Option, Some, None, nat_lt}
 use Rattle.std.specs.List.{list_all, list_any, range_with_len, position, position_or_len}
 use Rattle.std.proofs.lemmas.List.FromFn.{length-range_with_len}
 use Rattle.octets.specs.Lists.{all, any}
-use Rattle.octets.specs.Options.{found}
 use Rattle.octets.proofs.Checks.{known}
 use Rattle.octets.proofs.Lists.{all_cons, all_stops, any_cons, any_stops}
 use Rattle.index.specs.Index.{place_of}
@@ -50,22 +49,22 @@ one_more None = None
 abbrev Below : ℕ → ℕ → Option ℕ
 Below n m = cond (nat_lt n m) (Some n) None
 
-below_more : (n m : ℕ) (o : Option ℕ) → Below n m ≡ found o → Below (1 + n) (suc m) ≡ found (one_more o)
+below_more : (n m : ℕ) (o : Option ℕ) → Below n m ≡ o → Below (1 + n) (suc m) ≡ one_more o
 unfolding one_more
 below_more n m o e = elim (dec_lt n m) [ yes h ↦ inside h o e | no h ↦ outside (omega arith) o e ]
   where
-    inside : n < m → (r : Option ℕ) → Below n m ≡ found r → Below (1 + n) (suc m) ≡ found (one_more r)
+    inside : n < m → (r : Option ℕ) → Below n m ≡ r → Below (1 + n) (suc m) ≡ one_more r
     inside h None q = absurd (let t = rw (lt-ltb n m h) at q in let z : ◌≡◌ {A = ℕ} 0 1 = cc t in omega arith)
     inside h (Some r) q =
         let t : Some n ≡ Some r = rw (lt-ltb n m h) at q in
         let same : n ≡ r = cc in
         rw (lt-ltb (1 + n) (suc m) (omega arith)) (ap (λ (z : ℕ). Some z) (omega arith))
 
-    outside : m ≤ n → (r : Option ℕ) → Below n m ≡ found r → Below (1 + n) (suc m) ≡ found (one_more r)
+    outside : m ≤ n → (r : Option ℕ) → Below n m ≡ r → Below (1 + n) (suc m) ≡ one_more r
     outside h None q = rw (le-ltb (1 + n) (suc m) (omega arith))
     outside h (Some r) q = absurd (let t = rw (le-ltb n m h) at q in let z : ◌≡◌ {A = ℕ} 0 1 = cc t in omega arith)
 
-place_position : (ks : List ℕ) (c : ℕ) → position (λ k. eqb k c) ks ≡ found (place_of ks c)
+place_position : (ks : List ℕ) (c : ℕ) → position (λ k. eqb k c) ks ≡ place_of ks c
 unfolding place_of one_more
 place_position [] c = refl
 place_position (k ∷ ks) c =
@@ -74,7 +73,7 @@ place_position (k ∷ ks) c =
     (λ (p : eqb k c ≡ false). rw (place_of, p) (below_more (position_or_len (λ x. eqb x c) ks) (length ks) (place_of ks c) (place_position ks c)))
     (known (eqb k c))
 
-pub place_found : (ks : List ℕ) (c : ℕ) → position (λ k. eqb (get_or ks k 0) c) (range_with_len 0 (length ks)) ≡ found (place_of ks c)
+pub place_found : (ks : List ℕ) (c : ℕ) → position (λ k. eqb (get_or ks k 0) c) (range_with_len 0 (length ks)) ≡ place_of ks c
 place_found ks c =
     let e = position_places (λ k. eqb k c) 0 ks (length ks) 0 (omega arith) in
     let l = length-range_with_len 0 (length ks) in

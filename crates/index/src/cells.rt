@@ -1,6 +1,5 @@
 // The columns of both forms, and the cell of a row.
 ghost use Rattle.std.specs.Prelude.{Some, ◌≡◌, map, ◌<◌, ◌≤◌, length, slice_get, Option};
-ghost use Rattle.octets.specs.Options.{found};
 ghost use Rattle.index.specs.Columns.{columns_of, column_in};
 ghost use Rattle.index.specs.Index.{place_of, cell_at, cell_of};
 ghost use Rattle.index.specs.Cells.{column_place, cell_found};
@@ -118,7 +117,7 @@ pub fn column_at(version: u32, k: usize) -> Option<ColumnPlace>
 
 // The code of a section's column.
 pub fn column_of(version: u32, section: usize) -> Option<usize>
-    ensures { result ≡ found (column_in (columns_of version) section) }
+    ensures { result ≡ column_in (columns_of version) section }
 {
     let place = columns(version).iter().find(|c| c.section == section);
     place.map(|c| c.column)
@@ -127,7 +126,7 @@ pub fn column_of(version: u32, section: usize) -> Option<usize>
 impl<'a> Index<'a> {
     // How many columns stand before the one of a code.
     pub fn place_of(&self, code: usize) -> Option<usize>
-        ensures { result ≡ found (place_of self.now.codes code) }
+        ensures { result ≡ place_of self.now.codes code }
     {
         (0..self.head().columns).position(|k| self.code_at(k) == code)
     }

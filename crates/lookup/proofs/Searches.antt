@@ -2,7 +2,6 @@
 use Rattle.std.proofs.Common.{◌≡◌, refl, ap, sym, ◌∙◌, Bool, List, ℕ, ◌+◌, ◌-◌, ◌≤◌, ◌<◌, arith, length, take, drop, get_or}
 use Rattle.std.specs.Prelude.{Option, Some, None, Result, Ok, Err}
 use Rattle.octets.specs.Checked.{◌>>=◌, mapped}
-use Rattle.octets.specs.Options.{found}
 use Rattle.octets.proofs.Checks.{pass_inj}
 use Rattle.octets.proofs.Parts.{part_cut}
 use Rattle.numbers.specs.Refused.{told, number_of}
@@ -87,11 +86,11 @@ module _ (p : List ℕ) (h : PackageHead) (o : Opened p h) where
     table_is : table_index h t ≡ indexed (index_for (package_in p) t)
     table_is = ap (λ (z : PackageHead). table_index z t) o.head ∙ table_by t (package_in p)
 
-    pub table_none : None ≡ table_index h t → None ≡ found (index_for (package_in p) t)
+    pub table_none : None ≡ table_index h t → None ≡ index_for (package_in p) t
     unfolding indexed
     table_none e = go (index_for (package_in p) t) (e ∙ table_is)
       where
-        go : (i : Option Index) → None ≡ indexed i → None ≡ found i
+        go : (i : Option Index) → None ≡ indexed i → None ≡ i
         go (Some i) f = absurd (let z : ◌≡◌ {A = ℕ} 0 1 = cc in omega arith)
         go None f = refl
 
@@ -119,27 +118,19 @@ module _ (p : List ℕ) (h : PackageHead) (o : Opened p h) where
       pub table_sized : Sized s i
       table_sized = read_sized h.encoding.big s i well
 
-      pub table_some : Some (index_in h.encoding.big s i) ≡ found (index_for (package_in p) t)
+      pub table_some : Some (index_in h.encoding.big s i) ≡ index_for (package_in p) t
       table_some =
           let same : index_in h.encoding.big s i ≡ read.0 = pass_inj (sym (read_is h.encoding.big s i well) ∙ read.2) in
-          ap Some same ∙ sym (ap found read.1)
+          ap Some same ∙ sym read.1
 
     -- ---- the index that is there
-    pub absent_in : (x section : ℕ) → None ≡ found (index_for (package_in p) t) → Ok (absent 0) ≡ part_in (package_in p) t x section
+    pub absent_in : (x section : ℕ) → None ≡ index_for (package_in p) t → Ok (absent 0) ≡ part_in (package_in p) t x section
     unfolding part_in
-    absent_in x section e = sym (table_missing x _ _ (go (index_for (package_in p) t) e))
-      where
-        go : (i : Option Index) → None ≡ found i → i ≡ None
-        go (Some i) f = absurd (let z : ◌≡◌ {A = ℕ} 0 1 = cc in omega arith)
-        go None f = refl
+    absent_in x section e = sym (table_missing x _ _ (sym e))
 
-    module _ (i : Index) (e : Some i ≡ found (index_for (package_in p) t)) where
+    module _ (i : Index) (e : Some i ≡ index_for (package_in p) t) where
       there : index_for (package_in p) t ≡ Some i
-      there = go (index_for (package_in p) t) e
-        where
-          go : (m : Option Index) → Some i ≡ found m → m ≡ Some i
-          go (Some j) f = cc
-          go None f = absurd (let z : ◌≡◌ {A = ℕ} 0 1 = cc in omega arith)
+      there = sym e
 
       pub index_well : Well i
       index_well = record {

@@ -4,7 +4,6 @@ ghost use Rattle.numbers.specs.Refused.{told};
 ghost use Rattle.numbers.specs.Sections.{section_codes};
 ghost use Rattle.numbers.specs.Tabled.{table_number};
 ghost use Rattle.octets.specs.Checked.{mapped};
-ghost use Rattle.octets.specs.Options.{found};
 ghost use Rattle.bundle.specs.Bundle.{body, first_part};
 ghost use Rattle.bundle.specs.Encoding.{encoding_good};
 ghost use Rattle.lookup.specs.Lookup.{
@@ -111,7 +110,7 @@ impl<'a> Package<'a> {
     // The index of a table, if it is there, by the table's number: 1, or any other for the type units'.
     #[tactic(auto, using(crate::proofs::Searches::table_cases))]
     pub fn index(&self, table: u32) -> Option<Index<'a>>
-        ensures { result ≡ found (index_for (package_in self.now.bytes.now) table) }
+        ensures { result ≡ index_for (package_in self.now.bytes.now) table }
     {
         let head = self.head.index_for(table)?;
         let bytes = self.section_bytes(index_code(table));

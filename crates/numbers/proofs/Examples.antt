@@ -1,5 +1,5 @@
 -- The names of the sections, letter by letter, as the checker computes them.
-use Rattle.std.proofs.Common.{◌≡◌, refl, List, [], ◌∷◌}
+use Rattle.std.proofs.Common.{◌≡◌, refl, [], ◌∷◌}
 use Rattle.numbers.specs.Sections.{info_code, types_code, abbrev_code, line_code, loc_code, str_offsets_code, macinfo_code, macro_code, loclists_code, rnglists_code, str_code, cu_index_code, tu_index_code}
 use Rattle.numbers.specs.Names.{dwo_words, index_words, name_prefix, name_suffix, dwo_name, index_name, section_names, section_name}
 

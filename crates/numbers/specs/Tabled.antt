@@ -1,5 +1,5 @@
 -- The two tables of units, as the code has them.
-use Rattle.std.specs.Prelude.{true, false, ℕ, Result, Ok, Err, ◌==◌, if◌then◌else◌}
+use Rattle.std.specs.Prelude.{ℕ, Result, Ok, Err, ◌==◌, if◌then◌else◌}
 use Rattle.numbers.specs.Tables.{compilation_table, type_table}
 use Rattle.numbers.specs.declared.refusals.Refusal.{Refusal}
 use Rattle.numbers.specs.declared.refusals.Refusal.TheVariants.{BadQuestion}

@@ -1,5 +1,5 @@
 -- A check gives a value, or a refusal's number: `Result A ℕ`. Checks in a row stop at the first refusal, so the order of the list of refusals (FORMAT 13) is the order of the lines.
-use Rattle.std.specs.Prelude.{Bool, true, false, ◌≡◌, ℕ, Result, Ok, Err}
+use Rattle.std.specs.Prelude.{Bool, true, false, ℕ, Result, Ok, Err}
 
 infixl 20 ◌>>=◌
 -- the first refusal stands

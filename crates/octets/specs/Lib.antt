@@ -2,4 +2,3 @@
 pub mod Octets
 pub mod Lists
 pub mod Checked
-pub mod Options

@@ -1,5 +1,5 @@
 -- Lists of anything: joined, filtered, tested, summed.
-use Rattle.std.specs.Prelude.{Bool, true, false, not, Option, Some, None, List, [], ◌∷◌, ◌++◌, ◌≡◌, ℕ, ◌+◌, ◌<◌, ◌≤◌, length, ◌==◌, nat_eq, slice_index, if◌then◌else◌}
+use Rattle.std.specs.Prelude.{Bool, true, false, not, Option, Some, None, List, [], ◌∷◌, ◌≡◌, ℕ, ◌+◌, ◌<◌, ◌≤◌, length, ◌==◌, nat_eq, slice_index, if◌then◌else◌}
 -- the kit's words, under shorter names
 pub use Rattle.std.specs.List.{concat as joined, filter as those, list_all as all, list_any as any}
 

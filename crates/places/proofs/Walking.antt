@@ -2,7 +2,6 @@
 use Rattle.std.proofs.Common.{◌≡◌, refl, sym, ap, ◌∙◌, subst, ◌⊎◌, inl, inr, ⊎_elim, true, false, List, [], ◌∷◌, ℕ, suc, ◌+◌, ◌-◌, ◌<◌, ◌≤◌, arith, add-one, eqb, length, drop, get_or, drop_of_length-le, drop-cons, eqb-true, eq-eqb, ne_eqb}
 use Rattle.std.specs.Prelude.{Option, Some, None, Ok, Err}
 use native.Mathlib.Decide.{ℕ_discrete}
-use Rattle.octets.specs.Options.{found}
 use Rattle.octets.proofs.Checks.{true_false}
 use Rattle.octets.proofs.Refusals.{only_refuses}
 use Rattle.index.specs.Index.{Contribution}
@@ -39,20 +38,12 @@ good_end : (left : ℕ) → marks_good left [] ≡ eqb left 0
 unfolding marks_good
 good_end left = refl
 
-found_some : (o : Option ℕ) (k : ℕ) → Some k ≡ found o → o ≡ Some k
-found_some (Some n) k e = let q : k ≡ n = cc in rw q
-found_some None k e = absurd (let z : ◌≡◌ {A = ℕ} 0 1 = cc in omega arith)
-
-found_none : (o : Option ℕ) → None ≡ found o → o ≡ None
-found_none None e = refl
-found_none (Some n) e = absurd (let z : ◌≡◌ {A = ℕ} 0 1 = cc in omega arith)
-
 -- of the loop
-pub walk_on : (ms : List ℕ) (i left n more : ℕ) → i < length ms → n ≡ get_or ms i 0 → Some more ≡ found (turned left n) → marks_good left (drop i ms) ≡ marks_good more (drop (i + 1) ms)
-walk_on ms i left n more h e t = rw (add-one, drop-cons ms i 0 h) (good_on left (get_or ms i 0) more (drop (suc i) ms) (ap (turned left) (sym e) ∙ found_some (turned left n) more t))
+pub walk_on : (ms : List ℕ) (i left n more : ℕ) → i < length ms → n ≡ get_or ms i 0 → Some more ≡ turned left n → marks_good left (drop i ms) ≡ marks_good more (drop (i + 1) ms)
+walk_on ms i left n more h e t = rw (add-one, drop-cons ms i 0 h) (good_on left (get_or ms i 0) more (drop (suc i) ms) (ap (turned left) (sym e) ∙ sym t))
 
-pub walk_stops : (ms : List ℕ) (i left n : ℕ) → i < length ms → n ≡ get_or ms i 0 → None ≡ found (turned left n) → marks_good left (drop i ms) ≡ false
-walk_stops ms i left n h e t = rw (drop-cons ms i 0 h) (good_stops left (get_or ms i 0) (drop (suc i) ms) (ap (turned left) (sym e) ∙ found_none (turned left n) t))
+pub walk_stops : (ms : List ℕ) (i left n : ℕ) → i < length ms → n ≡ get_or ms i 0 → None ≡ turned left n → marks_good left (drop i ms) ≡ false
+walk_stops ms i left n h e t = rw (drop-cons ms i 0 h) (good_stops left (get_or ms i 0) (drop (suc i) ms) (ap (turned left) (sym e) ∙ sym t))
 
 pub walk_end : (ms : List ℕ) (i left : ℕ) → length ms ≤ i → marks_good left (drop i ms) ≡ eqb left 0
 walk_end ms i left h = rw (drop_of_length-le ms h) (good_end left)

@@ -1,7 +1,6 @@
 // 34, of a package of version 5: the parts of str_offsets that rows name must tile the section. In lent words, one for each byte of the section: the size of
 // the part that starts there, 0 where none does. So one walk over the rows and one over the section decide, in whatever order the rows name their parts.
 ghost use Rattle.std.specs.Prelude.{◌≡◌, List, ◌++◌, ◌<◌, ◌^◌, length, Option, Some, None, Ok};
-ghost use Rattle.octets.specs.Options.{found};
 ghost use Rattle.index.specs.Tiles.{named};
 ghost use Rattle.bundle.specs.Encoded.{encoding_is};
 ghost use Rattle.places.specs.Marks.{
@@ -62,7 +61,7 @@ pub fn mark_rows(index: &Index, marks: &mut [u32]) -> bool
 // starts where one must, or one starts in another.
 #[tactic(auto, unfolding(crate::specs::Marks::turned))]
 fn pass_place(left: usize, n: usize) -> Option<usize>
-    ensures { result ≡ found (turned left n) }
+    ensures { result ≡ turned left n }
 {
     if left == 0 {
         n.checked_sub(1)

@@ -4,7 +4,6 @@ use Rattle.std.specs.Prelude.{Option, Some, None, Result, Ok, Err}
 use native.Mathlib.Nat.{sub-zero}
 use native.Mathlib.Decide.{ℕ_discrete}
 use Rattle.octets.specs.Octets.{zeros, padded, part}
-use Rattle.octets.specs.Options.{found}
 use Rattle.octets.specs.Checked.{mapped}
 use Rattle.octets.proofs.Checks.{pass_inj, pass_refuse}
 use Rattle.octets.proofs.Parts.{length_part_le}
@@ -59,10 +58,6 @@ section_short p k e c = ⊎_elim
     holding o f q = rw (sym q) (at o f (first_part o.parts c) refl)
 
 -- ---- the index of a table
-pub there : {A : Type 0} (o : Option A) (a : A) → Some a ≡ found o → o ≡ Some a
-there (Some b) a e = cc
-there None a e = absurd (let z : ◌≡◌ {A = ℕ} 0 1 = cc in omega arith)
-
 pub table_here : (p : List ℕ) (h : PackageHead) → Opened p h → (table : ℕ) (i : Index) → index_for (package_in p) table ≡ Some i → IndexHere i
 table_here p h o table i e =
     index_here (package_in p).encoding.big (body p (package_in p).parts (index_code table)) i (index_known p (package_in p) o.is table i e)

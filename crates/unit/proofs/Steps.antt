@@ -3,24 +3,13 @@ use Rattle.std.proofs.Common.{◌≡◌, refl, sym, ap, ℕ, arith}
 use Rattle.std.specs.Prelude.{Option, Some, None, Result, Err}
 use Rattle.std.specs.Option.{ok_or}
 use Rattle.std.specs.Result.{IsErrAnd}
-use Rattle.std.proofs.lemmas.Option.{none-some, same_Some}
 use Rattle.std.proofs.lemmas.Result.{err_from_is_err_and}
-use Rattle.octets.specs.Options.{found}
 use Rattle.numbers.specs.Refused.{told, number_of}
 use Rattle.numbers.specs.declared.refusals.Refusal.{Refusal}
 
 -- what a `?` that leaves answers
 pub leaves : {A : Type 0} {m : Result A ℕ} (r : Result A Refusal) (e : Refusal) → IsErrAnd r (λ y. y ≡ e) → Err (number_of e) ≡ m → told r ≡ m
 leaves r e h g = let p = err_from_is_err_and r h in rw (p.1, p.2) g
-
--- what a definition finds, by what the code answers
-pub found_some : {A : Type 0} (m : Option A) (a : A) → found m ≡ Some a → m ≡ Some a
-found_some (Some b) a e = ap Some (same_Some b a e)
-found_some None a e = absurd (none-some a e)
-
-pub found_none : {A : Type 0} (m : Option A) → found m ≡ None → m ≡ None
-found_none (Some b) e = absurd (none-some b (sym e))
-found_none None e = refl
 
 -- what `ok_or()` says where nothing was found
 pub ok_or_none : {A : Type 0} (o : Option A) (e d : Refusal) → Err e ≡ ok_or o d → (o ≡ None) × (e ≡ d)

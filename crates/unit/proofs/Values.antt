@@ -2,7 +2,6 @@
 use Rattle.std.proofs.Common.{◌≡◌, refl, sym, ap, ◌∙◌, Bool, true, false, List, ℕ, ◌+◌, ◌≤◌, arith, leb, length, drop, length-drop, eq-eqb, ne_eqb, le-leb, leb-true}
 use Rattle.std.specs.Prelude.{Option, Some, None, Result, Ok, Err}
 use native.Mathlib.Decide.{ℕ_discrete}
-use Rattle.octets.specs.Options.{found}
 use Rattle.octets.specs.Checked.{◌>>=◌, require}
 use Rattle.octets.proofs.Checks.{pass_refuse, pass_inj, bind_pass, then_pass, then_refuse, require_pass}
 use Rattle.octets.proofs.Refusals.{Only, only_pass, only_refuse, only_require, only_bind}
@@ -14,7 +13,7 @@ use Rattle.unit.specs.Forms.{Width, fixed, forms, width_in, value_size}
 use Rattle.unit.specs.Widths.{ends, size_within}
 use Rattle.unit.specs.Root.{needed, Value, plain_value, value_of}
 use Rattle.unit.proofs.Sizes.{only_value_size}
-use Rattle.unit.proofs.Steps.{ok_or_none, found_some, found_none}
+use Rattle.unit.proofs.Steps.{ok_or_none}
 
 abbrev plain : ℕ → ℕ → Value
 plain form n = record { form = form; start = 0; size = n }
@@ -31,13 +30,13 @@ ended form s (Ok n) = go (leb n (length s))
 ended form s (Err k) = refl
 
 module _ (e : Encoding) (form : ℕ) (s : List ℕ) where
-  pub plain_unknown : found (width_in forms form) ≡ None → plain_value e form s ≡ Err 12
+  pub plain_unknown : width_in forms form ≡ None → plain_value e form s ≡ Err 12
   unfolding plain_value needed
-  plain_unknown h = then_refuse _ _ 12 (ap needed (found_none (width_in forms form) h))
+  plain_unknown h = then_refuse _ _ 12 (ap needed h)
 
-  module _ (w : Width) (f : found (width_in forms form) ≡ Some w) where
+  module _ (w : Width) (f : width_in forms form ≡ Some w) where
     h : width_in forms form ≡ Some w
-    h = found_some (width_in forms form) w f
+    h = f
 
     plain_sized : plain_value e form s ≡ (size_within e w s >>= λ n. Ok (plain form n))
     unfolding plain_value needed size_within

@@ -1,6 +1,5 @@
 // The widths of forms, as one table, and the sizes of the values that have them.
 ghost use Rattle.std.specs.Prelude.{◌≡◌, map, ◌+◌, ◌≤◌, length, option_map};
-ghost use Rattle.octets.specs.Options.{found};
 ghost use Rattle.bundle.specs.Encoded.{encoding_is};
 ghost use Rattle.numbers.specs.Refused.{told};
 ghost use Rattle.unit.specs.Forms.{forms, width_in, zero_ended};
@@ -162,7 +161,7 @@ fn all_forms() -> [Form; 27]
 }
 
 pub fn width_of(form: u64) -> Option<Width>
-    ensures { option_map width_is result ≡ found (width_in forms form) }
+    ensures { option_map width_is result ≡ width_in forms form }
 {
     let table = all_forms();
     table.iter().find(|f| f.form == form).map(|f| f.width)

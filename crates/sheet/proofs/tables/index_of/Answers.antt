@@ -1,6 +1,7 @@
 -- `sheet::tables::index_of` meets its contract.
-use Rattle.sheet.proofs.LawTables.{there, table_here}
+use Rattle.std.proofs.Common.{sym}
+use Rattle.sheet.proofs.LawTables.{table_here}
 use Rattle.sheet.proofs.tables.index_of.Goals as goal
 
 pub of-requires : goal.of-requires
-of-requires c = table_here _ _ c.args.«package».now.opened _ _ (there _ _ c.in_ok-index.ensures)
+of-requires c = table_here _ _ c.args.«package».now.opened _ _ (sym c.in_ok-index.ensures)

@@ -6,7 +6,6 @@ use Rattle.std.specs.List.{find}
 use Rattle.std.proofs.Common.{rules, Bor, ◌≡◌, refl, ap, ◌∙◌, List, [], ◌∷◌, map, ℕ, eqb, tests, eq-eqb, ne_eqb}
 use Rattle.std.proofs.lemmas.Iterator.{YieldsList-from_slice}
 use Rattle.std.proofs.lemmas.Iterator.Search.{find_from_yields_List}
-use Rattle.octets.specs.Options.{found}
 use Rattle.unit.specs.Forms.{width_in}
 use Rattle.unit.specs.Widths.{width_is, form_is}
 use Rattle.unit.specs.declared.forms.Form.{Form}
@@ -14,7 +13,7 @@ use Rattle.unit.specs.declared.forms.Width.{Width}
 use Rattle.unit.proofs.forms.width_of.Goals as goal
 
 -- the first row of a form, and its width
-first : (fs : List Form) (f : ℕ) → option_map (λ (x : Form). width_is x.width) (find (λ x. eqb x.form f) fs) ≡ found (width_in (map form_is fs) f)
+first : (fs : List Form) (f : ℕ) → option_map (λ (x : Form). width_is x.width) (find (λ x. eqb x.form f) fs) ≡ width_in (map form_is fs) f
 unfolding form_is width_in
 first [] f = refl
 first (x ∷ fs) f = elim (ℕ_discrete x.form f) [
@@ -36,4 +35,4 @@ returns c =
     width c.find.result c.map.result c.map.ensures.cases (λ x w k. search rules)
     ∙ ap (option_map (λ (x : Form). width_is x.width)) f
     ∙ first c.all_forms-table.result c.args.form
-    ∙ ap (λ t. found (width_in t c.args.form)) c.all_forms-table.ensures
+    ∙ ap (λ t. width_in t c.args.form) c.all_forms-table.ensures
