@@ -3,6 +3,7 @@
 mod add;
 mod bundle;
 mod call;
+mod carrying;
 mod elf;
 mod files;
 mod frame;

@@ -18,6 +18,15 @@ pub struct Unit {
     pub is_namesake: bool,
 }
 
+/// The objects, counted from 1, whose units are all skipped; none where the bundle or a unit can't be read.
+pub fn objects_of_skipped(bundle: &[u8]) -> Vec<usize> {
+    let (Ok(read), Some(units)) = (Bundle::read(bundle), units(bundle)) else { return Vec::new() };
+    let mut counts: HashMap<usize, usize> = HashMap::new();
+    units.iter().for_each(|unit| *counts.entry(unit.object).or_default() += 1);
+    let all = (1..).zip(&read.objects).filter(|(number, object)| counts.get(number) == Some(&spans(object).len()));
+    all.map(|(number, _)| number).collect()
+}
+
 /// All of them, in their order; none where the bundle or a unit can't be read.
 pub fn units(bundle: &[u8]) -> Option<Vec<Unit>> {
     let read = Bundle::read(bundle).ok()?;

@@ -44,7 +44,7 @@ fn over_a_week(version: u32) {
         assert_eq!(told, format!("2 files added to {first}{SAME}"));
         assert!(read(&home, &first) == read(&home, &all));
         let verified = done(&home, &["verify", &first, &main, &race, &other]);
-        assert!(verified.ends_with(": all found; the files may be deleted\n"), "{verified}");
+        assert!(verified.ends_with(ALL_FOUND), "{verified}");
     }
     // An ELF file stays one, whatever the new one is called, and a package becomes one by its name.
     done(&home, &["pack", "--add", "second.dwp", &other, "-o", "kept"]);

@@ -363,7 +363,7 @@ fn the_first_commands_steps_work() {
         text(&output)
     };
     assert_eq!(run(&["pack", &main, &race, "-o", "race.package"]), "");
-    assert!(run(&["verify", "race.package", &main, &race]).ends_with(": all found; the files may be deleted\n"));
+    assert!(run(&["verify", "race.package", &main, &race]).ends_with(ALL_FOUND));
     assert_eq!(run(&["list", "race.package"]).matches("\nunit cu 0x").count(), 2);
     let makefile = fs::read_to_string(format!("{ROOT}/Makefile")).unwrap();
     let asked = makefile.split("lookup target/race.package ").nth(1).unwrap().lines().next().unwrap();

@@ -51,8 +51,6 @@ fn laid_out(name: &str) -> PathBuf {
     home
 }
 
-const MAY_GO: &str = "; the files may be deleted\n";
-
 fn is_yes(output: &Output) -> bool {
     let yes = text(output).ends_with(MAY_GO);
     assert_eq!(status(output), if yes { 0 } else { 1 }, "{}{}", text(output), message(output));
@@ -136,8 +134,10 @@ fn the_order_is_that_of_the_call() {
     fs::write(home.join("a"), &a).unwrap();
     fs::write(home.join("package"), made(&[z, a])).unwrap();
     fs::write(home.join("list"), "z\na\n").unwrap();
-    let told = "2 files: 1 unit, 0 strings: all found; besides, 0 type units were repeats, 1 namesake, of whose signatures the package \
-                has the first; the files may be deleted\n";
+    let told = format!(
+        "2 files: 1 unit, 0 strings: all found; besides, 0 type units were repeats, 1 namesake, of whose signatures the package has the first: \
+         their own parts are found by no lookup; a, object 1 has no other unit, as this program reads it{MAY_GO}"
+    );
     for files in [&["z", "a"][..], &["@list"]] {
         assert_eq!(done(&home, &[&["verify", "package"], files].concat()), told);
         run_in(&home, &[&["pack", "-o", "again"], files].concat(), &[]);

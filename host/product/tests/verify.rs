@@ -48,15 +48,15 @@ fn package(bundle: &[u8]) -> Vec<u8> {
 fn what_was_packed_is_found() {
     let home = directory("verify");
     for (version, big, told) in [
-        (4, false, "8 units, 76 strings: all found; the files may be deleted\n"),
-        (5, false, "8 units, 76 strings: all found; the files may be deleted\n"),
-        (4, true, "1 unit, 13 strings: all found; the files may be deleted\n"),
-        (5, true, "1 unit, 13 strings: all found; the files may be deleted\n"),
+        (4, false, "8 units, 76 strings"),
+        (5, false, "8 units, 76 strings"),
+        (4, true, "1 unit, 13 strings"),
+        (5, true, "1 unit, 13 strings"),
     ] {
         let files = files(version, big);
         let files: Vec<&str> = files.iter().map(String::as_str).collect();
         let read = if big { "1 file: " } else { "6 files: " };
-        let told = format!("{read}{told}");
+        let told = format!("{read}{told}{ALL_FOUND}");
         assert_eq!(status(&run_in(&home, &[&["pack", "--force", "-oout"], &files[..]].concat(), &[])), 0);
         let output = run_in(&home, &[&["verify", "out"], &files[..]].concat(), &[]);
         assert_eq!((text(&output), message(&output), status(&output)), (told.clone(), String::new(), 0));
@@ -67,7 +67,7 @@ fn what_was_packed_is_found() {
         }
     }
     let output = run_in(&home, &["verify", "-", EXAMPLE, "--json"], &bytes(PACKAGE));
-    let told = "{\"verified\":true,\"units\":1,\"repeats\":0,\"namesakes\":0,\"strings\":0,\"files\":1,\"with_code\":[],\"faults\":[]}\n";
+    let told = "{\"verified\":true,\"units\":1,\"repeats\":0,\"namesakes\":0,\"strings\":0,\"files\":1,\"with_code\":[],\"not_read\":[\"line\",\"macro\"],\"faults\":[]}\n";
     assert_eq!((text(&output), status(&output)), (told.to_string(), 0));
 }
 
@@ -143,8 +143,8 @@ fn the_package_is_no_copy_of_itself() {
     }
     // Another file of the same bytes is a copy.
     let output = run_in(&home, &["verify", "package", "copy"], &[]);
-    let told = "1 file: 1 unit, 0 strings: all found; the files may be deleted\n";
-    assert_eq!((text(&output).as_str(), message(&output).as_str(), status(&output)), (told, "", 0));
+    let told = format!("1 file: 1 unit, 0 strings{ALL_FOUND}");
+    assert_eq!((text(&output).as_str(), message(&output).as_str(), status(&output)), (told.as_str(), "", 0));
     // Files that can't be packed together, here one unit twice, are nothing that the proved comparison can say yes of.
     let output = run_in(&home, &["verify", "package", "copy", "file"], &[]);
     let (told, end) =
@@ -169,7 +169,8 @@ fn a_file_with_code_is_kept() {
     assert_eq!(status(&run_in(&home, &["pack", "main.o", &files[1], "-o", "package"], &[])), 0);
     let told = |files: &[&str], wanted: &str| {
         let output = run_in(&home, &[&["verify", "package"], files].concat(), &[]);
-        assert!(text(&output).ends_with(&format!(": all found; {wanted}\n")), "{}", text(&output));
+        let end = ALL_FOUND.replace("the files may be deleted", wanted);
+        assert!(text(&output).ends_with(&end), "{}", text(&output));
         assert_eq!((message(&output), status(&output)), (String::new(), 0));
     };
     let rest = "; the other files may be deleted";
@@ -178,7 +179,7 @@ fn a_file_with_code_is_kept() {
     told(&["main.o", "other.o"], "main.o and other.o have code or data besides: keep them");
     told(&[&files[1]], "the files may be deleted");
     let json = text(&run_in(&home, &["verify", "--json", "package", "main.o", &files[1]], &[]));
-    assert!(json.contains(",\"with_code\":[\"main.o\"],\"faults\":[]}"), "{json}");
+    assert!(json.contains(",\"with_code\":[\"main.o\"],\"not_read\":"), "{json}");
 }
 
 /// Where nothing was looked for, nothing is found.
@@ -206,9 +207,9 @@ fn nothing_to_look_for_is_told() {
     looked(&["without"], "1 file", &without("1 of 1 object has"));
     looked(&["without", "empty", "without"], "3 files", &without("2 of 2 objects have"));
     let output = run_in(&home, &["verify", "package", "without", "file"], &[]);
-    let told = "2 files: 1 unit, 0 strings: all found; the files may be deleted\n";
+    let told = format!("2 files: 1 unit, 0 strings{ALL_FOUND}");
     let note = without("1 of 2 objects has");
-    assert_eq!((text(&output).as_str(), message(&output), status(&output)), (told, note, 0));
+    assert_eq!((text(&output), message(&output), status(&output)), (told, note, 0));
 }
 
 #[test]

@@ -5,6 +5,8 @@
 //! stand for themselves. Each is asked of `barthovin_verify` against the bundle that it was made of, whole and with bits turned. Where that says yes, the kit's
 //! two other opinions have to: the one that asks the proved lookups and reads the bundle by itself, and the one that asks the reference alone. Where it says no,
 //! the reference has to find the fault at the place that is named. It fails at the first answer that is otherwise.
+//!
+//! The older opinion alone says yes where a turned bit gives a unit of info a part of types: it doesn't ask for one.
 
 use barthovin::verifying::{self, Verified, NOT_VERIFIED};
 use kit::generate::{call, Random};

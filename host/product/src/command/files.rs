@@ -13,6 +13,7 @@ use crate::lent::Lent;
 use crate::names::{LONGEST_BUNDLE, LONGEST_PACKAGE, OUTPUT_TOO_SHORT};
 use crate::reader::bundle::Bundle;
 use crate::reader::package::Package;
+use crate::skipped;
 use std::ffi::{OsStr, OsString};
 use std::fs;
 use std::os::unix::ffi::OsStrExt;
@@ -325,6 +326,20 @@ impl Joined {
     fn other_order(&self, shown: &str) -> Refusal {
         let why = format!("its byte order is not that of {}", self.first);
         Refusal { file: shown.to_string(), number: None, why }
+    }
+
+    /// How an object is called, counted from 1: by its file, or by its number in the one bundle that was handed in.
+    pub fn called(&self, object: usize, files: &[OsString]) -> String {
+        let file = object.checked_sub(1).and_then(|at| self.files.get(at).cloned());
+        file.unwrap_or_else(|| {
+            format!("{}, object {object}", files.first().map_or(String::new(), |name| input::shown(name)))
+        })
+    }
+
+    /// Objects that have no unit but type units which are skipped, as the host reads the bundle.
+    pub fn of_skipped_alone(&self, files: &[OsString]) -> Vec<String> {
+        let alone = skipped::objects_of_skipped(&self.bundle);
+        alone.into_iter().map(|object| self.called(object, files)).collect()
     }
 
     /// Says which files were left out, of so many.

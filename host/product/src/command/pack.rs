@@ -2,6 +2,7 @@
 
 use super::add::{self, Added, Earlier};
 use super::call::{Call, Known};
+use super::carrying::uncarried;
 use super::files::{join, listed, refused_call, Joined};
 use super::guard::Replaced;
 use super::refusals::Refusals;
@@ -63,6 +64,8 @@ pub fn run(arguments: &[OsString]) -> Result<u8, Stop> {
     let (package, skipped) = packed.map_err(|number| refusal(&call, &names, earlier.as_ref(), &joined, number))?;
     joined.note_left_out(names.len());
     joined.uncarried.lines().iter().for_each(|line| stop::note(line));
+    let not_carried = uncarried(&joined, &names);
+    not_carried.iter().for_each(|(file, what)| stop::note(&format!("{file}: {what}: keep it")));
     let added = earlier.as_ref().map(|earlier| earlier.added(names.len() - joined.left_out.len()));
     let namesakes = if call.has("namesakes") { namesakes(&joined, skipped)? } else { Vec::new() };
     let machine = as_elf.then(|| Machine::of(named, joined.machine()));
@@ -74,7 +77,8 @@ pub fn run(arguments: &[OsString]) -> Result<u8, Stop> {
         None => guard::write(&call, to, &package, file)?,
     };
     let length = file.len();
-    say(&call, to, Done { length, machine, skipped, namesakes, added, left_out, closed: later, replaced })
+    let carried = not_carried.is_none();
+    say(&call, to, Done { length, machine, skipped, namesakes, added, left_out, closed: later, replaced, carried })
 }
 
 /// The machine that an ELF file is written for.
@@ -120,7 +124,7 @@ fn elf_file(call: &Call, to: &OsStr, package: &[u8], machine: u32, packed: Joine
 }
 
 /// What was done: the length written, the machine of an ELF file, what was skipped and which of it are namesakes where that is asked for, what was
-/// added to a package, what was left out, why nothing can be added later, and what was replaced.
+/// added to a package, what was left out, why nothing can be added later, what was replaced, and whether packing carries all that the files name.
 struct Done {
     length: usize,
     machine: Option<Machine>,
@@ -130,6 +134,7 @@ struct Done {
     left_out: Vec<String>,
     closed: Option<u32>,
     replaced: Option<Replaced>,
+    carried: bool,
 }
 
 impl Done {
@@ -145,7 +150,8 @@ impl Done {
         let left_out = (!left_out.is_empty()).then(|| format!(",\"left_out\":[{}]", left_out.join(",")));
         let counts = format!("\"repeats\":{repeats},\"namesakes\":{namesakes}");
         let replaced = self.replaced.as_ref().map(Replaced::json);
-        let more = [left_out, listed, replaced].map(Option::unwrap_or_default).concat();
+        let carried = (!self.carried).then(|| ",\"carried\":false".to_string());
+        let more = [left_out, listed, replaced, carried].map(Option::unwrap_or_default).concat();
         format!("{{\"length\":{},{counts}{machine}{same}{later}{more}}}", self.length)
     }
 }

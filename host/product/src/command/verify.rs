@@ -2,6 +2,7 @@
 //! and compare. Which file hands a unit in is read by the host, and said so.
 
 use super::call::{Call, Known};
+use super::carrying::{uncarried, NOT_READ, SECTIONS_NOT_READ};
 use super::files::{good_package, join, listed, Joined};
 use super::pack::{packed, refusal};
 use super::{guard, input, output, progress, show, Stop, DONE, NOT_DONE};
@@ -46,11 +47,12 @@ pub fn run(arguments: &[OsString]) -> Result<u8, Stop> {
     let version = version(&ours);
     let report = Report { package: input::shown(name), files, counts, joined };
     if counts.units == 0 {
-        return report.told(&call, None);
+        return report.told(&call, Vec::new());
     }
     let about = "comparing the package with what the files make".to_string();
     let told = progress::shown(about, || compared(&report.joined.bundle, &package, version, ours.len()));
-    report.told(&call, report.fault(told, &package, version)?)
+    let first = report.fault(told, &package, version)?;
+    report.told(&call, first.into_iter().chain(uncarried(&report.joined, &report.files)).collect())
 }
 
 /// What packing says of a single file that is no bundle.
@@ -105,20 +107,19 @@ impl Report {
         let Some(object) = explain::handed_in(&self.joined.bundle, told.table, told.identity) else {
             return self.package.clone();
         };
-        let file = self.joined.files.get(object - 1).cloned();
-        let file = file.unwrap_or_else(|| format!("{}, object {object}", input::shown(&self.files[0])));
-        format!("in {file}, as this program reads it")
+        format!("in {}, as this program reads it", self.joined.called(object, &self.files))
     }
 
-    fn told(&self, call: &Call, first: Option<Fault>) -> Result<u8, Stop> {
-        let faults: Vec<Fault> = first.into_iter().chain(self.joined.uncarried.faults()).collect();
+    fn told(&self, call: &Call, mut faults: Vec<Fault>) -> Result<u8, Stop> {
+        faults.extend(self.joined.uncarried.faults());
         let verified = faults.is_empty() && self.counts.units > 0;
         if call.has("json") {
             output::print(&self.json(verified, &faults))?;
             return Ok(if verified { DONE } else { NOT_DONE });
         }
         if verified {
-            return output::print(&format!("{}: all found{}; {}", self.looked_for(), self.besides(), self.may_go()));
+            let found = format!("{}: all found{}", self.looked_for(), self.besides());
+            return output::print(&format!("{found}; {NOT_READ}; {}", self.may_go()));
         }
         let mut told = format!("{}: not verified: {}", self.package, self.looked_for());
         if self.counts.units == 0 {
@@ -139,8 +140,18 @@ impl Report {
     fn besides(&self) -> String {
         match self.counts.skipped {
             Skipped { repeats: 0, namesakes: 0 } => String::new(),
-            skipped => format!("; besides, {}, of whose signatures the package has the first", show::skipped(skipped)),
+            skipped => format!("; besides, {}{}", show::skipped(skipped), self.of_others()),
         }
+    }
+
+    /// What skipped type units leave behind: the parts of their own files belong to no unit of the package.
+    fn of_others(&self) -> String {
+        let alone = match &self.joined.of_skipped_alone(&self.files)[..] {
+            [] => String::new(),
+            [one] => format!("; {one} has no other unit, as this program reads it"),
+            several => format!("; {} files or objects have no other unit, as this program reads them", several.len()),
+        };
+        format!(", of whose signatures the package has the first: their own parts are found by no lookup{alone}")
     }
 
     /// Which files may be deleted: an object file that was not split holds its debug sections beside the program's.
@@ -162,9 +173,10 @@ impl Report {
         let Counts { units, strings, skipped: Skipped { repeats, namesakes } } = self.counts;
         let counts = format!("\"units\":{units},\"repeats\":{repeats},\"namesakes\":{namesakes},\"strings\":{strings}");
         format!(
-            "{{\"verified\":{verified},{counts},\"files\":{},\"with_code\":[{}],\"faults\":[{}]}}",
+            "{{\"verified\":{verified},{counts},\"files\":{},\"with_code\":[{}],\"not_read\":[{}],\"faults\":[{}]}}",
             self.files.len(),
             with_code.join(","),
+            SECTIONS_NOT_READ.map(show::json).join(","),
             faults.join(",")
         )
     }

@@ -16,6 +16,12 @@ pub const PACKAGE: &str =
     "F0000000 10080405 20800014 00000010 08050005 00000000 00000001 00000000 21800001 00000000 26000040
     5 2 1 2 0 0 1 0 0 1 1 3 0 0 14 1 3000001C";
 
+/// What `verify` says behind the counts where all is found and nothing was skipped; and its end.
+pub const ALL_FOUND: &str =
+    ": all found; line and macro sections were not looked into for references by offset; the files may be deleted\n";
+pub const MAY_GO: &str =
+    "; line and macro sections were not looked into for references by offset; the files may be deleted\n";
+
 /// The bytes of words in hexadecimal.
 pub fn bytes(text: &str) -> Vec<u8> {
     text.split_whitespace().flat_map(|w| u32::from_str_radix(w, 16).unwrap().to_le_bytes()).collect()
