@@ -82,6 +82,7 @@ files_used = record {
   comes_again = p.of_the_files.first_or_again (first_unit ∷ second_unit ∷ type_unit ∷ repeated ∷ []) [] other_bytes refl;
   counted = omega (arith, p.of_the_files.counted, computed.three_kept, computed.repeats, computed.namesakes);
   contributes = p.of_the_files.what_it_contributes 2 7 type_unit type_first;
+  opens = (p.first_units_found 5).opens;
   its_bytes = subst (Holding their_package (looked_up their_package 5 2 7 1)) computed.type_bytes (type_found.parts 1 (record { from = omega arith; to = omega arith }) (λ e. omega arith));
   in_length =
       (let e = second_found.offsets in
@@ -97,5 +98,6 @@ files_used = record {
   str_offsets = p.str_offsets_in_length ∙ computed_files.sixteen_bytes;
   one_repeat = p.repeats ∙ computed.repeats;
   one_namesake = p.namesakes ∙ computed.namesakes;
+  units_verified = v.of_the_files.all_of_the_files;
   verified = v.first_units_found.found 2 7 type_unit (asked 2 (inr refl)) type_first;
 }

@@ -1,5 +1,5 @@
 -- The claim on files, used of two small ones: what it says there, worked out.
-use Rattle.std.specs.Prelude.{◌≡◌, ◌⊎◌, false, List, [], ◌∷◌, ℕ, ◌+◌, length, if◌then◌else◌, Option, Some, None}
+use Rattle.std.specs.Prelude.{◌≡◌, ◌⊎◌, false, List, [], ◌∷◌, ℕ, ◌+◌, length, if◌then◌else◌, Option, Some, None, Ok}
 use Rattle.octets.specs.Octets.{numbers_of, part as bytes_at}
 use Rattle.octets.specs.Lists.{any, has}
 use Rattle.bundle.specs.Bundle.{Part, body}
@@ -11,7 +11,7 @@ use Rattle.package.specs.Filing.{Filed, is_under, lengths, grown}
 use Rattle.package.specs.Pack.{packed}
 use Rattle.package.specs.Units.{IsUnit}
 use Rattle.packer.specs.Told.{numbered as told}
-use Rattle.lookup.specs.Lookup.{part, looked_up, string_found}
+use Rattle.lookup.specs.Lookup.{part, package_of, looked_up, string_found}
 use Rattle.lookup.specs.Answers.{coded, package_in}
 use Rattle.elf.specs.Writer.{amd64, file_bytes}
 use Rattle.archive.specs.Contributing.{Contributes}
@@ -153,6 +153,7 @@ pub record EveryFileClauseUsed : Type 0 where
   pub comes_again : (any (is_under 2 7) (first_unit ∷ second_unit ∷ type_unit ∷ repeated ∷ []) ≡ false) ⊎ ComesAgain (first_unit ∷ second_unit ∷ type_unit ∷ repeated ∷ []) other_bytes
   pub counted : ◌≡◌ {A = ℕ} 5 (3 + (1 + 1))
   pub contributes : Contributes (first_unit ∷ second_unit ∷ []) type_unit
+  pub opens : package_of their_package ≡ Ok (package_in their_package)
   pub its_bytes : Holding their_package (looked_up their_package 5 2 7 1) (bytes_at all_joined 136 24)
   pub in_length : (start : ℕ) × (looks : ℕ) × (looked_up their_package 5 1 2 6 ≡ part start 16 looks) × (bytes_at their_package start 8 ≡ 0xC ∷ 0 ∷ 0 ∷ 0 ∷ 5 ∷ 0 ∷ 0 ∷ 0 ∷ [])
   pub its_string : Holding their_package (string_found their_package 5 1 2 0) (98 ∷ [])
@@ -163,4 +164,5 @@ pub record EveryFileClauseUsed : Type 0 where
   pub one_repeat : (told all_joined (packed all_joined 1240 324)).repeats ≡ 1
   pub one_namesake : (told all_joined (packed all_joined 1240 324)).namesakes ≡ 1
   -- the same package verified
+  pub units_verified : UnitsOfFiles files their_units
   pub verified : HasUnit their_package 5 2 7 type_unit

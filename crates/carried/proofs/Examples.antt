@@ -37,7 +37,10 @@ use Rattle.carried.specs.Fault.{unread}
 use Rattle.carried.specs.Tables.{unread_table, form_fault, table_look}
 use Rattle.carried.specs.Naming.{name_fault, strings_look}
 use Rattle.carried.specs.Carried.{in_object, carried}
+use Rattle.carried.specs.Laws.{EachCarried}
 use Rattle.carried.specs.declared.Uncarried.{Uncarried}
+use Rattle.bundle.specs.Bundle.{Bundle as BundleRead, bundle_of}
+use Rattle.carried.proofs.AllLaws.{all_carried}
 
 -- ---- tables, byte by byte, each read from a place
 abbrev pub OfTables : Type 0
@@ -223,3 +226,14 @@ Examples = OfTables × OfStrings × OfBundles
 pub examples : Examples
 unfolding Checked.◌>>=◌ Checked.require Lists.same Lists.has Lists.distinct Lists.zero_together Octets.part Octets.little Octets.big_from Octets.number Octets.number_at Octets.numbers_in Octets.little_of Octets.big_of Octets.bytes_of Octets.numbers_of Octets.zeros Bundle.filled_up Bundle.object_step Bundle.section_step Bundle.end_step Bundle.step_of Bundle.step_at Bundle.followed Bundle.items_from Bundle.items Bundle.leading Bundle.objects_of Bundle.object_first Bundle.bundle_of Bundle.length_good Bundle.parts_of Bundle.count Bundle.first_part Bundle.body Encoding.encoding_of Encoding.encoding_good BundleWritten.word_bytes BundleWritten.head_bytes BundleWritten.section_bytes BundleWritten.object_bytes BundleWritten.end_bytes BundleWritten.written Leb128.groups Leb128.short Leb128.unsigned Leb128.signed_size Abbreviations.attribute_at Abbreviations.attributes_then Abbreviations.attributes_from Abbreviations.attributes_of Abbreviations.declaration_at Abbreviations.declarations_then Abbreviations.declarations_from Abbreviations.declarations_of Abbreviations.declaration_of Forms.forms Forms.width_in Forms.zero_ended Forms.value_size Root.needed Root.plain_value Root.value_of Root.identity_at Root.identity_in Root.root_tag Root.root_identity InitialLength.marked InitialLength.length_field InitialLength.length_stated UnitRead.length_good UnitRead.unit_size UnitRead.is_five UnitRead.address_place UnitRead.common_size UnitRead.behind_common UnitRead.identity_five UnitRead.identity_four UnitRead.identity_of UnitRead.unit_by Strings.header_size Strings.header_true Strings.entries_in Strings.entries_of Strings.up_to_zero Strings.string_at Strings.strings_at Strings.put Strings.put_all Strings.first_uses Strings.ended Strings.str_of Strings.offset_in Strings.remapped Columns.columns_four Columns.columns_five Columns.columns_of Columns.column_in Index.version_of Index.columns_most Index.code_good Index.power_from Index.least_power Index.slots_good Index.layout Index.index_of Index.place_of Index.cell_at Index.cell_of Probing.first_slot Probing.stride Probing.look Probing.search Probing.probe Probing.slots_for Probing.free_from Probing.place Probing.place_all Probing.unused Probing.slots_of Rows.shared Rows.needed_codes Rows.is_some Rows.row_of Rows.cell_is Rows.own_place Rows.part_good Rows.row_contributions Rows.row_numbers Rows.naming Rows.the_one Rows.abbrev_part Rows.whole_contributions IndexWritten.present_columns IndexWritten.offset_of IndexWritten.size_of IndexWritten.grid IndexWritten.start_bytes IndexWritten.index_with IndexWritten.index_bytes Filing.is_under Filing.index_for Filing.lengths Filing.index_by_place Filing.abbreviations_for Filing.contributions_of Filing.skipped Filing.unit_at Filing.units_from Filing.units_in Filing.grown Filing.filing_from Filing.first_word Filing.filing_of Filing.keep Filing.keep_all Filing.kept Input.present Input.repeated Input.wrong_codes Input.only_once Input.edition_good Input.complete Input.beside_info Input.form_of Input.input_index Input.whole_pieces Input.is_packed Input.tiled_pieces Input.unit_sections Input.opened_whole Input.opened_tiled Input.opened Input.input_of Filing.is_package Judged.object_check Fault.reading Fault.onward Tables.left_form Tables.behind_form Tables.passed Tables.attribute_met Tables.heading_size Tables.declaration_met Tables.met_at Tables.met Tables.table_from Tables.table_look Naming.piece_long Naming.piece_at Naming.named_from Naming.unnamed_from Naming.strings_look Units.field_place Units.table_stated Units.part_start Units.stated_look Units.unit_look Units.units_look Units.sections_look Carried.object_indexes Carried.object_opened Carried.object_look Carried.numbered Carried.objects_look Carried.bundle_checked Carried.bundle_look Carried.carried
 examples = ((refl, refl, refl, refl, refl, refl, refl, refl, refl, refl, refl, refl, refl, refl, refl, refl, refl, refl, refl, refl, refl, refl, refl, refl, refl, refl, refl, refl, refl, refl, refl, refl, refl, refl, refl, refl, refl, refl, refl), (refl, refl, refl, refl, refl, refl, refl, refl, refl, refl, refl, refl, refl, refl, refl, refl, refl, refl, refl, refl), (refl, refl, refl, refl, refl, refl, refl, refl, refl, refl, refl, refl, refl, refl, refl, refl, refl, refl, refl, refl, refl, refl, refl, refl, refl, refl, refl, refl, refl, refl, refl, refl, refl, refl, refl, refl, refl, refl, refl))
+
+-- ---- the law, applied to a bundle of a unit with its table and of two strings that entries name
+abbrev carrying : List ℕ
+carrying = one five (unit 5 1 ++ clean ++ str 0 2)
+
+is_carried : look carrying ≡ Ok tt
+unfolding Checked.◌>>=◌ Checked.require Lists.same Lists.has Lists.distinct Lists.zero_together Octets.part Octets.little Octets.big_from Octets.number Octets.number_at Octets.numbers_in Octets.little_of Octets.big_of Octets.bytes_of Octets.numbers_of Octets.zeros Bundle.filled_up Bundle.object_step Bundle.section_step Bundle.end_step Bundle.step_of Bundle.step_at Bundle.followed Bundle.items_from Bundle.items Bundle.leading Bundle.objects_of Bundle.object_first Bundle.bundle_of Bundle.length_good Bundle.parts_of Bundle.count Bundle.first_part Bundle.body Encoding.encoding_of Encoding.encoding_good BundleWritten.word_bytes BundleWritten.head_bytes BundleWritten.section_bytes BundleWritten.object_bytes BundleWritten.end_bytes BundleWritten.written Leb128.groups Leb128.short Leb128.unsigned Leb128.signed_size Abbreviations.attribute_at Abbreviations.attributes_then Abbreviations.attributes_from Abbreviations.attributes_of Abbreviations.declaration_at Abbreviations.declarations_then Abbreviations.declarations_from Abbreviations.declarations_of Abbreviations.declaration_of Forms.forms Forms.width_in Forms.zero_ended Forms.value_size Root.needed Root.plain_value Root.value_of Root.identity_at Root.identity_in Root.root_tag Root.root_identity InitialLength.marked InitialLength.length_field InitialLength.length_stated UnitRead.length_good UnitRead.unit_size UnitRead.is_five UnitRead.address_place UnitRead.common_size UnitRead.behind_common UnitRead.identity_five UnitRead.identity_four UnitRead.identity_of UnitRead.unit_by Strings.header_size Strings.header_true Strings.entries_in Strings.entries_of Strings.up_to_zero Strings.string_at Strings.strings_at Strings.put Strings.put_all Strings.first_uses Strings.ended Strings.str_of Strings.offset_in Strings.remapped Columns.columns_four Columns.columns_five Columns.columns_of Columns.column_in Index.version_of Index.columns_most Index.code_good Index.power_from Index.least_power Index.slots_good Index.layout Index.index_of Index.place_of Index.cell_at Index.cell_of Probing.first_slot Probing.stride Probing.look Probing.search Probing.probe Probing.slots_for Probing.free_from Probing.place Probing.place_all Probing.unused Probing.slots_of Rows.shared Rows.needed_codes Rows.is_some Rows.row_of Rows.cell_is Rows.own_place Rows.part_good Rows.row_contributions Rows.row_numbers Rows.naming Rows.the_one Rows.abbrev_part Rows.whole_contributions IndexWritten.present_columns IndexWritten.offset_of IndexWritten.size_of IndexWritten.grid IndexWritten.start_bytes IndexWritten.index_with IndexWritten.index_bytes Filing.is_under Filing.index_for Filing.lengths Filing.index_by_place Filing.abbreviations_for Filing.contributions_of Filing.skipped Filing.unit_at Filing.units_from Filing.units_in Filing.grown Filing.filing_from Filing.first_word Filing.filing_of Filing.keep Filing.keep_all Filing.kept Input.present Input.repeated Input.wrong_codes Input.only_once Input.edition_good Input.complete Input.beside_info Input.form_of Input.input_index Input.whole_pieces Input.is_packed Input.tiled_pieces Input.unit_sections Input.opened_whole Input.opened_tiled Input.opened Input.input_of Filing.is_package Judged.object_check Fault.reading Fault.onward Tables.left_form Tables.behind_form Tables.passed Tables.attribute_met Tables.heading_size Tables.declaration_met Tables.met_at Tables.met Tables.table_from Tables.table_look Naming.piece_long Naming.piece_at Naming.named_from Naming.unnamed_from Naming.strings_look Units.field_place Units.table_stated Units.part_start Units.stated_look Units.unit_look Units.units_look Units.sections_look Carried.object_indexes Carried.object_opened Carried.object_look Carried.numbered Carried.objects_look Carried.bundle_checked Carried.bundle_look Carried.carried
+is_carried = refl
+
+pub all_of_it : (k : BundleRead) × (bundle_of carrying ≡ Ok k) × EachCarried carrying k k.objects
+all_of_it = all_carried carrying (5 * length carrying) is_carried

@@ -9,6 +9,7 @@ use Rattle.bundle.specs.Encoding.{encoding_of, encoding_good}
 use Rattle.bundle.specs.Written.{word_bytes, end_bytes}
 use Rattle.bundle.proofs.Examples.{words}
 use Rattle.lookup.specs.Lookup.{codes, package_index, object_judged, objects_judged, package_of}
+use Rattle.join.proofs.Calls.{calls_join}
 use Rattle.join.specs.Open.{words_of, made_package, judged, opened}
 use Rattle.join.specs.Laws.{joined_all, after_call, joined_in, section_in, object_in, objects_read, objects_in, file_objects, all_objects}
 use Rattle.join.specs.Join.{elf_bundle, as_it_is, as_bundle, file_bundle, framed, contents, behind, joined_with, joined_behind, joined, joining, memory_after, starts_elf}
@@ -86,6 +87,10 @@ Together =
 pub together : Together
 unfolding elf_bundle part little number number_at little_of bytes_of numbers_of zeros ◌>>=◌ require filled_up object_step section_step end_step step_of step_at followed items_from items leading objects_of object_first bundle_of word_bytes end_bytes as_it_is as_bundle file_bundle framed contents behind starts_elf joined_with joined_behind joined joined_all section_in object_in objects_read objects_in file_objects all_objects padded joining memory_after after_call joined_in answered
 together = (refl, refl, refl, refl, refl, refl)
+
+-- what is joined, by the law of calls
+pub by_the_calls : joined_all [] (first ∷ second ∷ []) ≡ Ok both
+by_the_calls = calls_join first (second ∷ []) (first ++ first) both together.3
 
 -- files opened as packages
 abbrev pub Opens : Type 0
