@@ -2,6 +2,7 @@
 use Rattle.std.proofs.Common.{◌≡◌, refl, sym, ap, ◌∙◌, subst, true, false, inl, List, [], ◌∷◌, ◌++◌, ℕ, arith, length}
 use Rattle.std.specs.Prelude.{None, Ok}
 use native.Mathlib.Decide.{dec_lt}
+use Rattle.octets.specs.Lists.{has, distinct}
 use Rattle.sittings.specs.Sittings.{Sitting}
 use Rattle.answers.specs.Answers.{short, made as made_file}
 use Rattle.package.proofs.Accepted.{made_judged}
@@ -19,7 +20,7 @@ use Rattle.archive.proofs.Unread.{else_refused}
 use Rattle.archive.proofs.TwoSittings.{two_sittings}
 use Rattle.archive.proofs.Skipped.{tells_skipped}
 use Rattle.archive.proofs.Refusing.{refuses_by_number}
-use Rattle.archive.proofs.Rules.{files_are_held, files_of_32_are_held, slots_are_least, every_slot_visited, always_free_law, three_cases}
+use Rattle.archive.proofs.Rules.{files_are_held, files_of_32_are_held, slots_are_least, one_left_free, every_slot_visited, always_free_law, three_cases}
 use Rattle.archive.proofs.Bytes.{are_bytes}
 use Rattle.archive.proofs.AppliedTo as to
 use Rattle.archive.proofs.UsedOn.{computed}
@@ -94,12 +95,17 @@ files_law = record {
 }
 
 -- ---- of rules
+differ : distinct (8 ∷ 9 ∷ []) ≡ true
+unfolding distinct has
+differ = refl
+
 rules_law : OfRules
 rules_law =
     let t = three_cases None None [] in
     let n = t.passes.0 ([], to.asked.nothing_left) in
     record {
       eleven = slots_are_least 11 (omega arith);
+      left_of_two = one_left_free (8 ∷ 9 ∷ []) differ (omega arith);
       last_slot = every_slot_visited 9 2 3 (omega arith);
       second_free = always_free_law (1 ∷ 0 ∷ []) 8 1 1 refl (omega arith) refl;
       no_part = n;

@@ -5,16 +5,18 @@ use native.Mathlib.Decide.{ℕ_discrete, dec_lt}
 use lib.ListN.{length-replicate}
 use Rattle.std.proofs.lemmas.List.{get_or-replicate}
 use Rattle.index.specs.Index.{Contribution, least_power}
-use Rattle.index.specs.Probing.{slots_for}
+use Rattle.index.specs.Probing.{slots_for, slots_of}
 use Rattle.index.specs.Held.{PowerOfTwo}
 use Rattle.index.proofs.LawCounts.{used, used_frees, First, first_unused}
 use Rattle.index.proofs.Orbit.{slot_at}
-use Rattle.index.proofs.Slots.{least_power_le, slots_for_exceeds, slots_for_few, slots_for_many, slots_for_power}
-use Rattle.index.proofs.Placing.{probed, probed_lt, probed_once, always_free}
+use Rattle.index.proofs.Slots.{least_power_le, slots_for_exceeds, slots_for_few, slots_for_gt, slots_for_many, slots_for_power}
+use Rattle.index.proofs.Placing.{probed, probed_lt, probed_once, always_free, free_slot}
+use Rattle.index.proofs.LawPlaced.{distinct_is}
+use Rattle.index.proofs.Found.{slots_placed}
 use Rattle.index.proofs.Tiles.{is_one, one_here, one_right, one_stands, Tiled, tiles_tiled, tiled_tiles, tiles_only, both_some}
 use Rattle.elf.proofs.Held.{holds, holds32}
 use Rattle.archive.specs.Theorem.{slot_after}
-use Rattle.archive.specs.Rules.{FilesAreHeld, FilesOf32AreHeld, SlotsAreLeast, EverySlotVisited, AlwaysFree, IsOneOf, NoneOfThree, parts_named, ThreeCases}
+use Rattle.archive.specs.Rules.{FilesAreHeld, FilesOf32AreHeld, SlotsAreLeast, OneLeftFree, EverySlotVisited, AlwaysFree, IsOneOf, NoneOfThree, parts_named, ThreeCases}
 
 pub files_are_held : FilesAreHeld
 files_are_held f b h q = holds f b h q
@@ -43,6 +45,15 @@ slots_are_least n h =
   where
     two : 2 ≤ slots_for n
     two = elim (dec_lt n 2) [ yes few ↦ rw (slots_for_few n few) (omega arith) | no many ↦ omega (arith, slots_for_exceeds n h) ]
+
+-- slots exceed what is placed in them
+pub one_left_free : OneLeftFree
+one_left_free xs d h =
+    let n = slots_for (length xs) in
+    let p = slots_for_power (length xs) in
+    let c = (slots_placed xs (distinct_is xs d) h).counted in
+    let f : First (λ j. get_or (slots_of xs).rows (probed n 0 j) 0) n = free_slot n (length xs) p (slots_of xs) c 0 (slots_for_gt (length xs) h) in
+    (probed n 0 f.steps, omega (arith, probed_lt n 0 f.steps p, c.rows_are), f.zero_there)
 
 -- ---- probing
 used_most : (rows : List ℕ) → used rows ≤ length rows

@@ -1,11 +1,11 @@
 -- The laws told of small inputs, so that each of their premises is met somewhere.
-use Rattle.std.specs.Prelude.{◌≡◌, false, List, [], ◌∷◌, ◌++◌, ℕ, ◌+◌, ◌*◌, ◌-◌, ◌/◌, ◌≤◌, ◌<◌, max, length, get_or, None, Ok, Err}
+use Rattle.std.specs.Prelude.{◌≡◌, false, List, [], ◌∷◌, ◌++◌, ℕ, ◌+◌, ◌*◌, ◌-◌, ◌/◌, ◌≤◌, ◌<◌, max, length, get_or, slice_index, None, Ok, Err}
 use Rattle.numbers.specs.Refusals.{no_unit, file_short, bad_parts}
 use Rattle.numbers.specs.Tables.{compilation_table, type_table}
 use Rattle.octets.specs.Octets.{numbers_of, zeros}
 use Rattle.bundle.specs.Written.{Section}
 use Rattle.index.specs.Index.{Contribution}
-use Rattle.index.specs.Probing.{first_slot, stride, free_from}
+use Rattle.index.specs.Probing.{first_slot, stride, slots_of, free_from}
 use Rattle.index.specs.Tiles.{tiles}
 use Rattle.answers.specs.Answers.{refused, short, made as made_file}
 use Rattle.package.specs.Filing.{kept}
@@ -97,6 +97,7 @@ pub record OfFiles : Type 0 where
 -- ---- rules
 pub record OfRules : Type 0 where
   pub eleven : LeastSlots 11
+  pub left_of_two : (slot : ℕ) × (slot < length (slots_of (8 ∷ 9 ∷ [])).rows) × (slice_index (slots_of (8 ∷ 9 ∷ [])).rows slot ≡ 0)
   pub last_slot : (n : ℕ) × (n < 4) × (slot_after 9 4 n ≡ 3)
   pub second_free : ◌≡◌ {A = ℕ} (get_or (1 ∷ 0 ∷ []) (free_from 2 (1 ∷ 0 ∷ []) (first_slot 8 2) (stride 8 2)) 0) 0
   -- no part is named: the empty section passes, a byte is in none

@@ -1,8 +1,9 @@
 -- Rules that the definitions keep, each as a user would say it. The definitions themselves are walks and sums; that they come to this is proved.
-use Rattle.std.specs.Prelude.{◌≡◌, ◌⊎◌, ◌↔◌, List, ◌∷◌, ◌++◌, ℕ, ◌+◌, ◌*◌, ◌^◌, ◌≤◌, ◌<◌, length, get_or, Option, Ok, Err}
+use Rattle.std.specs.Prelude.{◌≡◌, ◌⊎◌, ◌↔◌, true, List, ◌∷◌, ◌++◌, ℕ, ◌+◌, ◌*◌, ◌^◌, ◌≤◌, ◌<◌, length, get_or, slice_index, Option, Ok, Err}
 use Rattle.numbers.specs.Refusals.{bad_parts}
+use Rattle.octets.specs.Lists.{distinct}
 use Rattle.index.specs.Index.{Index, Contribution}
-use Rattle.index.specs.Probing.{first_slot, stride, slots_for, free_from}
+use Rattle.index.specs.Probing.{first_slot, stride, slots_for, slots_of, free_from}
 use Rattle.index.specs.Tiles.{named, tiles}
 use Rattle.elf.specs.Reader.{bundle_read}
 use Rattle.elf.specs.Elf32.{bundle32_read}
@@ -27,6 +28,10 @@ pub record LeastSlots (n : ℕ) : Type 0 where
 
 abbrev pub SlotsAreLeast : Type 0
 SlotsAreLeast = (n : ℕ) → n ≤ 2 ^ 31 → LeastSlots n
+
+-- of those written for identities that differ, one is left free
+abbrev pub OneLeftFree : Type 0
+OneLeftFree = (xs : List ℕ) → distinct xs ≡ true → length xs ≤ 2 ^ 31 → (slot : ℕ) × (slot < length (slots_of xs).rows) × (slice_index (slots_of xs).rows slot ≡ 0)
 
 -- ---- probing: the odd step visits every slot, in as many steps as there are slots; so a slot is always free where one is
 abbrev pub EverySlotVisited : Type 0

@@ -10,7 +10,7 @@ ghost use Rattle.archive.specs.Skipped.{TellsSkipped};
 ghost use Rattle.archive.specs.Refusing.{RefusesByNumber};
 ghost use Rattle.archive.specs.Clauses.{EveryClause};
 ghost use Rattle.archive.specs.Applied.{Applied};
-ghost use Rattle.archive.specs.Rules.{FilesAreHeld, FilesOf32AreHeld, SlotsAreLeast, EverySlotVisited, AlwaysFree, ThreeCases};
+ghost use Rattle.archive.specs.Rules.{FilesAreHeld, FilesOf32AreHeld, SlotsAreLeast, OneLeftFree, EverySlotVisited, AlwaysFree, ThreeCases};
 
 // Of files that are joined and packed, or against which a package is verified: whoever holds the package finds, for each table and identity, the first unit that the files
 // handed in, in their order; every other unit of the files is a type unit that comes again, and is counted.
@@ -85,6 +85,12 @@ pub fn files_of_32_are_held()
 #[tactic(auto, using(crate::proofs::Rules::slots_are_least))]
 pub fn slots_are_least()
     ensures { SlotsAreLeast }
+{}
+
+// One of them is left free.
+#[tactic(auto, using(crate::proofs::Rules::one_left_free))]
+pub fn one_left_free()
+    ensures { OneLeftFree }
 {}
 
 // The odd step visits every slot.
