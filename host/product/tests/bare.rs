@@ -186,7 +186,15 @@ fn the_packers_refusals_are_told_at_once() {
     assert!(main.contains(": refused 6: ") && main.contains("it has 2 line sections"), "{main}");
     let call = ["pack", "gcc-5-main-twice.dwo", "clang-5-main.dwo", "gcc-5-race-twice.dwo", "-o", "new"];
     fs::copy(real_file("clang-5-main"), home.join("clang-5-main.dwo")).unwrap();
-    told(&home, &call, &[main, race, "barthovin: 2 of 3 objects can't be taken\n".to_string()].concat(), 1);
+    told(&home, &call, &[&main, &race[..], "barthovin: 2 of 3 objects can't be taken\n"].concat(), 1);
+    // With those that the readers refuse, and where they are added to a package.
+    fs::write(home.join("short"), &fs::read(real_file("gcc-5-main")).unwrap()[..40]).unwrap();
+    let short = alone("short");
+    let call = ["pack", "gcc-5-main-twice.dwo", "short", "clang-5-main.dwo", "-o", "new"];
+    told(&home, &call, &[&short, &main[..], "barthovin: 2 of 3 files can't be taken\n"].concat(), 1);
+    done(&home, &["pack", "clang-5-main.dwo", "-o", "first"]);
+    let call = ["pack", "--add", "first", "gcc-5-main-twice.dwo", "short", "-o", "new"];
+    told(&home, &call, &[&short, &main[..], "barthovin: 2 of 2 files can't be taken\n"].concat(), 1);
 }
 
 /// Sections that no package has a place for.

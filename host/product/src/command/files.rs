@@ -7,7 +7,7 @@ use super::refusals::{without_debug, Refusal, Refusals};
 use super::uncarried::Uncarried;
 use super::{input, progress, show, stop, Stop};
 use crate::elf;
-use crate::explain;
+use crate::explain::{self, Names, Refused};
 use crate::join;
 use crate::lent::Lent;
 use crate::names::{LONGEST_BUNDLE, LONGEST_PACKAGE, OUTPUT_TOO_SHORT};
@@ -229,6 +229,9 @@ fn joined(call: &Call, package: Option<&Taken>, names: &[OsString]) -> Result<Jo
     if put == 0 && refusals.is_empty() {
         joined.left_out.drain(..).for_each(|file| refusals.push(Refusal::without_debug(file)));
     }
+    if !refusals.is_empty() {
+        joined.add_refused(package, put, &mut refusals);
+    }
     refusals.told()?;
     Ok(joined)
 }
@@ -259,6 +262,18 @@ impl Joined {
         self.put_bundle(&package.bytes, &package.shown).map_err(|refusal| refusal.stop(call))?;
         self.files = vec![package.shown.clone()];
         self.meet(package.machine, &package.shown).map_err(|refusal| refusal.stop(call))
+    }
+
+    /// Adds those of so many files that packing refuses, where each is one object: they are told with the others, and not only when these are mended. The
+    /// package that they are added to is none of them.
+    fn add_refused(&self, package: Option<&Taken>, put: usize, refusals: &mut Refusals) {
+        let before = usize::from(package.is_some());
+        if self.files.len() != before + put {
+            return;
+        }
+        let refused = explain::each(&self.bundle, &Names { files: &self.files });
+        let of_files = refused.into_iter().filter(|refused| refused.object > before);
+        of_files.for_each(|Refused { object, number, why }| refusals.add(&self.files[object - 1], number, why));
     }
 
     /// The machine of what was packed, where an ELF file names one.
