@@ -78,7 +78,10 @@ fn bundle_of(form: &[u8], entries: &[u32]) -> Vec<u8> {
     }
     let table = [&[1, 0x11, 0, 3], form, &[0, 0, 0]].concat();
     let mut offsets = Vec::new();
-    [4 + 4 * entries.len() as u32, 5].iter().chain(entries).for_each(|word| put(&mut offsets, (*word).into(), 4, false));
+    [4 + 4 * entries.len() as u32, 5]
+        .iter()
+        .chain(entries)
+        .for_each(|word| put(&mut offsets, (*word).into(), 4, false));
     let sections = [(1, unit), (3, table), (6, offsets), (11, b"a\0b\0".to_vec())];
     kit::reference::write_bundle(false, Some(0x1008_0405), &sections)
 }

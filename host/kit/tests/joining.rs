@@ -1,9 +1,10 @@
-//! Joining, opening and verifying through C: the stored answers, which are also those of the kit's second opinions, and every byte of the memory that was lent.
+//! Joining, opening, verifying and what isn't carried, through C: the stored answers, which are also those of the kit's second opinions, and every byte of the memory that was lent.
 
+use barthovin::carrying::{carried, Carried};
 use barthovin::join;
 use barthovin::verifying::{self, NOT_VERIFIED};
 use kit::joined::{joining, open};
-use kit::reference::{Bundle, Packed};
+use kit::reference::{left, Bundle, Packed};
 use kit::vectors::{bytes, lines, number, verdict, Verdict};
 use kit::verified::{self, HandedInWith};
 
@@ -78,6 +79,34 @@ fn openings() {
     }
     assert_eq!(seen.iter().sum::<usize>(), 120);
     assert!(seen.iter().all(|count| *count >= 10), "{seen:?}");
+}
+
+#[test]
+fn what_is_not_carried() {
+    let mut seen = std::collections::BTreeMap::new();
+    for line in lines(include_str!("vectors/carried.txt")) {
+        let words: Vec<&str> = line.split_whitespace().collect();
+        let ["carried", bundle, work, "=", answer @ ..] = &words[..] else { panic!("{line}") };
+        let (bundle, work) = (bytes(bundle).unwrap(), number(work).unwrap() as usize);
+        let answer: Vec<u64> = answer.iter().map(|word| number(word).unwrap()).collect();
+        let [code, object, section, place, form] = answer[..] else { panic!("{line}") };
+        let wanted = Carried {
+            code: code as u32,
+            section: section as u32,
+            object: object as usize,
+            place: place as usize,
+            form,
+        };
+        let second = left(&bundle, work).map(|left| (left.code, left.object, left.section, left.place, left.form));
+        let told = (wanted.code, wanted.object, wanted.section, wanted.place, wanted.form);
+        assert_eq!(second.unwrap_or((0, 0, 0, 0, 0)), told, "{line}");
+        let mut work = vec![0xA5A5_A5A5; work];
+        assert_eq!(carried(&bundle, &mut work), wanted, "{line}");
+        assert!(work.iter().all(|word| *word == 0), "{line}");
+        *seen.entry(wanted.code).or_insert(0) += 1;
+    }
+    assert_eq!(seen.values().sum::<usize>(), 240);
+    assert!([0, 2, 12, 47, 48].iter().all(|code| seen.get(code).is_some_and(|count| *count >= 5)), "{seen:?}");
 }
 
 #[test]

@@ -194,7 +194,10 @@ fn carried_by_rust(bundle: &[u8]) -> String {
         tell(&other, 20 * 17);
     }
     tell(&other, 16);
-    assert_eq!(told, "carried 0 0 0 0 0\ncarried 47 11 0 0 0\ncarried 47 11 0 0 0\ncarried 12 3 0 0 0\ncarried 2 0 0 0 0\n");
+    assert_eq!(
+        told,
+        "carried 0 0 0 0 0\ncarried 47 11 0 0 0\ncarried 47 11 0 0 0\ncarried 12 3 0 0 0\ncarried 2 0 0 0 0\n"
+    );
     told
 }
 

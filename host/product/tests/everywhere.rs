@@ -97,7 +97,10 @@ fn refusals() {
     let names = ["other_order = ", "not_verified = ", "not_named = ", "not_carried = "];
     let is_one = |line: &&str| names.iter().any(|name| line.starts_with(name));
     defined.extend(used.lines().filter(is_one).filter_map(number));
-    assert_eq!(known, defined, "those of meaning.rs, and those of Refusals.antt, Join.antt, Verified.antt and Fault.antt");
+    assert_eq!(
+        known, defined,
+        "those of meaning.rs, and those of Refusals.antt, Join.antt, Verified.antt and Fault.antt"
+    );
     let format = read("docs/FORMAT.md");
     let tables = between(&format, "\n## 13 ", "\n## ");
     assert_eq!(known, rows(tables), "those of meaning.rs, and those of FORMAT.md");

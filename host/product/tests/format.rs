@@ -114,8 +114,12 @@ fn every_refusal_has_its_rule_and_its_definition() {
     let rows = refusals();
     let told: BTreeSet<u32> = rows.iter().map(|row| row.0).collect();
     // 45 to 48 stand with the definitions that refuse by them.
-    let files =
-        ["numbers/specs/Refusals.antt", "join/specs/Join.antt", "archive/specs/Verified.antt", "carried/specs/Fault.antt"];
+    let files = [
+        "numbers/specs/Refusals.antt",
+        "join/specs/Join.antt",
+        "archive/specs/Verified.antt",
+        "carried/specs/Fault.antt",
+    ];
     let numbers = files.map(|name| read(&format!("crates/{name}"))).concat();
     let of_code = |line: &str| line.split_once(" = ").and_then(|(_, number)| number.trim().parse().ok());
     let known: BTreeSet<u32> = numbers.lines().filter_map(of_code).collect();

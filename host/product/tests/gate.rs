@@ -93,7 +93,9 @@ fn laid_out(name: &str) -> Home {
         fs::copy(format!("{ROOT}/{file}"), home.join(file)).unwrap();
     }
     // The clauses of the laws are read from the sources.
-    for laws in ["archive", "join", "store", "carried", "archive_tables"].map(|name| format!("crates/{name}/src/laws.rt")) {
+    for laws in
+        ["archive", "join", "store", "carried", "archive_tables"].map(|name| format!("crates/{name}/src/laws.rt"))
+    {
         fs::create_dir_all(home.join(&laws).parent().unwrap()).unwrap();
         fs::copy(format!("{ROOT}/{laws}"), home.join(&laws)).unwrap();
     }

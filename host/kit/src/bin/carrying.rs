@@ -31,7 +31,10 @@ fn main() -> ExitCode {
         *counts.entry(answer.code).or_insert(0) += 1;
         if answer.code != 0 {
             let Carried { code, section, object, place, form } = answer;
-            println!("{}: {code} at byte {place} of section {section} of object {object}, form {form:X}", file.display());
+            println!(
+                "{}: {code} at byte {place} of section {section} of object {object}, form {form:X}",
+                file.display()
+            );
         }
         if answer != other {
             println!("{}: the second reading says {other:?}", file.display());

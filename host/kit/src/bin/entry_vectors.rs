@@ -1,13 +1,13 @@
-//! Cases for joining, opening and verifying, with the answers that the kit gives: entry_vectors join | open | verify NUMBER [SEED]
+//! Cases for joining, opening, verifying and what isn't carried, with the answers that the kit gives: entry_vectors join | open | verify | carried NUMBER [SEED]
 //!
 //! No proved function has a say in what is expected. Of joining and opening it is the kit's second join that answers (`kit::joined`), of verifying the reference
-//! (`kit::verified`); where the command's older opinion (`kit::verify`) is another, it fails.
+//! (`kit::verified`); where the command's older opinion (`kit::verify`) is another, it fails. What isn't carried is told by the second reading of FORMAT 7.10.
 
 use kit::elf::Class;
 use kit::elf_writer;
 use kit::generate::{call, damage, elf, Call, Random};
 use kit::joined::{joining, open};
-use kit::reference::{pack, work_for, Bundle, Packed};
+use kit::reference::{left, pack, work_for, Bundle, Left, Packed};
 use kit::sittings::objects_of;
 use kit::vectors::Verdict;
 use kit::verified::verdict;
@@ -156,9 +156,27 @@ fn verify_line(random: &mut Random) -> Result<String> {
     Ok(format!("verify {bundle} {package} {version} {work} {output} = {answer}"))
 }
 
+/// A bundle, often with a byte of a table or of str_offsets changed, and its first place that isn't carried, or can't be read.
+fn carried_line(random: &mut Random) -> String {
+    let mut bundle = some_bundle(random);
+    let places: Vec<(usize, usize)> = Bundle::read(&bundle).map_or(Vec::new(), |read| {
+        let sections = read.objects.iter().flat_map(|object| &object.sections);
+        sections.filter(|s| matches!(s.code, 3 | 6) && !s.bytes.is_empty()).map(|s| (s.start, s.bytes.len())).collect()
+    });
+    if !places.is_empty() && random.one_in(2) {
+        let (start, size) = random.pick(&places);
+        bundle[start + random.below(size as u64) as usize] = random.below(0x28) as u8;
+    }
+    let work = if random.one_in(20) { work_for(&bundle).saturating_sub(1) } else { work_for(&bundle) };
+    let answer = left(&bundle, work);
+    let Left { code, object, section, place, form } =
+        answer.unwrap_or(Left { code: 0, object: 0, section: 0, place: 0, form: 0 });
+    format!("carried {} {work} = {code} {object} {section} {place} {form:#x}", hexadecimal(&bundle))
+}
+
 fn main() -> Result<()> {
     let words: Vec<String> = std::env::args().collect();
-    let usage = || Error::other("entry_vectors join | open | verify NUMBER [SEED]");
+    let usage = || Error::other("entry_vectors join | open | verify | carried NUMBER [SEED]");
     let number = |i: usize| words.get(i).and_then(|word| word.parse::<u64>().ok());
     let (kind, wanted) = (words.get(1).ok_or_else(usage)?, number(2).ok_or_else(usage)?);
     let mut random = Random::new(number(3).unwrap_or(1));
@@ -167,6 +185,7 @@ fn main() -> Result<()> {
             "join" => join_line(&mut random),
             "open" => open_line(&mut random),
             "verify" => verify_line(&mut random)?,
+            "carried" => carried_line(&mut random),
             _ => return Err(usage()),
         };
         println!("{line}");

@@ -44,9 +44,11 @@ pub fn left(bytes: &[u8], work_words: usize) -> Option<Left> {
         return Some(Left::at(2, 0, 0));
     }
     let Some(bundle) = Bundle::read(bytes) else { return Some(Left::at(3, 0, 0)) };
-    let asked = bundle.objects.iter().enumerate().map(|(number, object)| {
-        of_object(&bundle, object).err().map(|left| Left { object: number, ..left })
-    });
+    let asked = bundle
+        .objects
+        .iter()
+        .enumerate()
+        .map(|(number, object)| of_object(&bundle, object).err().map(|left| Left { object: number, ..left }));
     asked.flatten().next()
 }
 
