@@ -67,7 +67,7 @@ fn what_was_packed_is_found() {
         }
     }
     let output = run_in(&home, &["verify", "-", EXAMPLE, "--json"], &bytes(PACKAGE));
-    let told = "{\"verified\":true,\"units\":1,\"repeats\":0,\"namesakes\":0,\"strings\":0,\"files\":1,\"with_code\":[],\"not_read\":[\"line\",\"macro\"],\"faults\":[]}\n";
+    let told = "{\"verified\":true,\"units\":1,\"repeats\":0,\"namesakes\":0,\"strings\":0,\"files\":1,\"objects\":1,\"with_code\":[],\"not_read\":[\"line\",\"macro\"],\"faults\":[]}\n";
     assert_eq!((text(&output), status(&output)), (told.to_string(), 0));
 }
 
@@ -203,9 +203,9 @@ fn nothing_to_look_for_is_told() {
         assert!(text(&output).starts_with("{\"verified\":false,\"units\":0,"), "{}", text(&output));
         assert_eq!((message(&output), status(&output)), (note.to_string(), 1));
     };
-    looked(&["empty"], "1 file", "");
+    looked(&["empty"], "1 file, 0 objects", "");
     looked(&["without"], "1 file", &without("1 of 1 object has"));
-    looked(&["without", "empty", "without"], "3 files", &without("2 of 2 objects have"));
+    looked(&["without", "empty", "without"], "3 files, 2 objects", &without("2 of 2 objects have"));
     let output = run_in(&home, &["verify", "package", "without", "file"], &[]);
     let told = format!("2 files: 1 unit, 0 strings{ALL_FOUND}");
     let note = without("1 of 2 objects has");

@@ -129,11 +129,18 @@ impl Report {
         Err(Stop::Refused(told + "\nbarthovin: keep the files"))
     }
 
-    /// How many files were read, and what is looked for.
+    /// How many files were read, how many objects they hold where these aren't as many, and what is looked for.
     fn looked_for(&self) -> String {
         let Counts { units, strings, .. } = self.counts;
         let files = show::count(self.files.len(), "file");
-        format!("{files}: {}, {}", show::count(units, "unit"), show::count(strings, "string"))
+        let objects = self.objects().filter(|objects| *objects != self.files.len());
+        let objects = objects.map(|objects| format!(", {}", show::count(objects, "object"))).unwrap_or_default();
+        format!("{files}{objects}: {}, {}", show::count(units, "unit"), show::count(strings, "string"))
+    }
+
+    /// As the host reads what was joined.
+    fn objects(&self) -> Option<usize> {
+        explain::without_units(&self.joined.bundle).map(|(_, objects)| objects)
     }
 
     /// The type units that aren't in the package by themselves.
@@ -173,8 +180,9 @@ impl Report {
         let Counts { units, strings, skipped: Skipped { repeats, namesakes } } = self.counts;
         let counts = format!("\"units\":{units},\"repeats\":{repeats},\"namesakes\":{namesakes},\"strings\":{strings}");
         format!(
-            "{{\"verified\":{verified},{counts},\"files\":{},\"with_code\":[{}],\"not_read\":[{}],\"faults\":[{}]}}",
+            "{{\"verified\":{verified},{counts},\"files\":{},\"objects\":{},\"with_code\":[{}],\"not_read\":[{}],\"faults\":[{}]}}",
             self.files.len(),
+            self.objects().unwrap_or_default(),
             with_code.join(","),
             SECTIONS_NOT_READ.map(show::json).join(","),
             faults.join(",")
