@@ -1,0 +1,3 @@
+-- Laws, and worked examples.
+pub mod Reading
+pub mod Examples

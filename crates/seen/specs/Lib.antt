@@ -1,0 +1,2 @@
+-- The kept units that stand in lent words.
+pub mod Listed
