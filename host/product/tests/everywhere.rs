@@ -104,6 +104,21 @@ fn refusals() {
     let format = read("docs/FORMAT.md");
     let tables = between(&format, "\n## 13 ", "\n## ");
     assert_eq!(known, rows(tables), "those of meaning.rs, and those of FORMAT.md");
+    let readme = read("README.md");
+    let crates = between(&readme, "\n## The crates\n", "\n## ");
+    assert_eq!(known, column(crates), "those of meaning.rs, and those of README.md's column of refusals");
+}
+
+/// The numbers in the last column of a table of four, which has ranges too: `1 to 16, 18`.
+fn column(text: &str) -> BTreeSet<u32> {
+    let number = |word: &str| word.parse().unwrap_or_else(|_| panic!("'{word}' is no number"));
+    let numbers = |part: &str| match part.split_once(" to ") {
+        Some((from, to)) => number(from)..=number(to),
+        None => number(part)..=number(part),
+    };
+    let table = text.lines().filter(|line| line.starts_with("| ")).skip(1);
+    let cells = table.filter_map(|line| line.split('|').nth(4)).map(str::trim).filter(|cell| !cell.is_empty());
+    cells.flat_map(|cell| cell.split(", ").flat_map(numbers).collect::<Vec<_>>()).collect()
 }
 
 /// What the header says by which numbers an entry refuses is what FORMAT.md says.
