@@ -47,6 +47,31 @@ fn a_package_becomes_the_file_that_pack_writes() {
     }
 }
 
+/// The refusal of the package leads to the command that writes the file, where a file is wanted and the package is all that is packed. It leads nowhere
+/// where that command would refuse it too.
+fn leads_to_elf(home: &Path) {
+    let lead = "; 'barthovin elf PACKAGE -o FILE.dwp' writes the package as an ELF file, as it is\n";
+    let cause = "tu_index has no column for loc";
+    let refused = |call: &[&str], end: &str| {
+        let output = run_in(home, call, &[]);
+        let told = message(&output);
+        assert!(told.starts_with(&format!("barthovin: {}: refused 15: ", call[1])), "{told}");
+        assert!(told.ends_with(&format!("{cause}{end}")) && status(&output) == 1, "{told}");
+    };
+    refused(&["pack", "c.package", "-o", "c.dwp"], lead);
+    refused(&["pack", "wanted.dwp", "-o", "c.dwp"], lead);
+    refused(&["pack", "c.package", "--elf", "-o", "c.elf"], lead);
+    refused(&["pack", "c.package", "-o", "c.again"], "\n");
+    let race = real_file("gcc-4-race");
+    let two = run_in(home, &["pack", "c.package", &race, "-o", "c.dwp"], &[]);
+    assert!(message(&two).contains(cause) && !message(&two).contains("barthovin elf"), "{}", message(&two));
+    // What is cut off is no package, and `elf` is no help.
+    let whole = read(home, "c.package");
+    fs::write(home.join("cut"), &whole[..whole.len() - 4]).unwrap();
+    let cut = run_in(home, &["pack", "cut", "-o", "c.dwp"], &[]);
+    assert!(message(&cut).contains("refused ") && !message(&cut).contains("barthovin elf"), "{}", message(&cut));
+}
+
 /// A package that packing takes no more: the command makes an ELF file of it all the same, and `pack` said it when it was written.
 /// By way of packing it again there would be none.
 #[test]
@@ -58,8 +83,7 @@ fn a_closed_package_becomes_a_file_too() {
     assert_eq!(done(&home, &["pack", &main, &driver, "-o", "wanted.dwp"]), closed);
     let json = done(&home, &["pack", &main, &driver, "-o", "c.package", "--json"]);
     assert!(json.ends_with(",\"can_be_added_to\":false}\n"), "{json}");
-    let output = run_in(&home, &["pack", "c.package", "-o", "c.dwp"], &[]);
-    assert!(message(&output).contains("refused 15") && status(&output) == 1);
+    leads_to_elf(&home);
     done(&home, &["elf", "c.package", "--machine=x86-64", "-o", "c.dwp"]);
     assert_eq!(read(&home, "c.dwp"), read(&home, "wanted.dwp"));
     // Nothing is said of one that more can be added to.

@@ -127,6 +127,12 @@ fn opened(file: &[u8]) -> Result<Lent<u8>, u32> {
     }
 }
 
+/// Whether the words are those of a package with an index: the proved opening takes them.
+pub fn is_package(words: &[u8]) -> bool {
+    let has_index = |package: Package| package.index(1).or(package.index(2)).is_some();
+    opened(words).is_ok() && Package::read(words).is_ok_and(has_index)
+}
+
 /// The refusal of bytes that are no package.
 pub fn no_package(call: &Call, name: &OsStr, bytes: &[u8]) -> Stop {
     refused_call(call, &input::shown(name), NOT_A_PACKAGE, explain::not_a_package(bytes))

@@ -3,7 +3,7 @@
 use super::add::{self, Added, Earlier};
 use super::call::{Call, Known};
 use super::carrying::uncarried;
-use super::files::{join, listed, refused_call, Joined};
+use super::files::{is_package, join, listed, refused_call, Joined};
 use super::guard::Replaced;
 use super::refusals::Refusals;
 use super::{guard, input, output, progress, show, stop, Stop, DONE};
@@ -21,6 +21,9 @@ use std::os::unix::ffi::OsStrExt;
 /// What is said of a package that as an ELF file would be no package any more.
 pub const NO_READER: &str =
     "no reader could open it as an ELF file, where only a unit of .debug_info.dwo says which DWARF version it has";
+
+/// What helps where a package can't be packed again and an ELF file of it is wanted.
+const AS_ELF: &str = "'barthovin elf PACKAGE -o FILE.dwp' writes the package as an ELF file, as it is";
 
 /// A long bundle: what its packing takes counts.
 const LONG: usize = 1 << 20;
@@ -56,7 +59,7 @@ pub fn run(arguments: &[OsString]) -> Result<u8, Stop> {
     let earlier = add::earlier(&call)?;
     // What is added to keeps its form.
     let is_elf = earlier.as_ref().is_some_and(|earlier| earlier.file.is_elf);
-    let as_elf = is_elf || call.has("elf") || to.as_bytes().ends_with(b".dwp");
+    let as_elf = is_elf || wants_elf(&call);
     let named = machine_named(&call, as_elf)?;
     let joined = join(&call, earlier.as_ref().map(|earlier| &earlier.file), &names)?;
     let about = format!("packing {}, {} bytes", show::count(names.len(), "file"), joined.bundle.len());
@@ -79,6 +82,11 @@ pub fn run(arguments: &[OsString]) -> Result<u8, Stop> {
     let length = file.len();
     let carried = not_carried.is_none();
     say(&call, to, Done { length, machine, skipped, namesakes, added, left_out, closed: later, replaced, carried })
+}
+
+/// Whether the call asks for an ELF file.
+fn wants_elf(call: &Call) -> bool {
+    call.has("elf") || call.value("output").is_some_and(|to| to.as_bytes().ends_with(b".dwp"))
 }
 
 /// The machine that an ELF file is written for.
@@ -261,10 +269,18 @@ pub fn refusal(call: &Call, operands: &[OsString], earlier: Option<&Earlier>, jo
         (None, _) => format!("{files} together"),
     };
     let file = why.as_ref().and_then(|why| why.file(&names)).unwrap_or(&all);
-    let hint = earlier.filter(|_| why.as_ref().and_then(|why| why.object()) == Some(1)).map(|_| add::HINT.to_string());
+    let hint = match earlier {
+        Some(_) => (why.as_ref().and_then(|why| why.object()) == Some(1)).then(|| add::HINT.to_string()),
+        None => (operands.len() == 1 && wants_elf(call) && is_written(&joined.bundle)).then(|| AS_ELF.to_string()),
+    };
     let why = why.as_ref().map(|why| why.told(&names)).filter(|why| !why.is_empty());
     let why: Vec<String> = why.into_iter().chain(hint).collect();
     refused_call(call, file, number, Some(why.join("; ")))
+}
+
+/// Whether `elf` writes it as a file that a reader opens: it is a package with an index, though packing refuses it.
+fn is_written(bundle: &[u8]) -> bool {
+    is_package(bundle) && elf::states_version(bundle)
 }
 
 /// What most packages of a bundle fit in. An index makes a package longer than its bundle, by less than a sixteenth where units have a kilobyte; strings and type
