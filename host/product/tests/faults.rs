@@ -4,8 +4,8 @@
 //! A file with two links is copied over by `--force` alone. No system does that at once: who is killed in the middle of it has been told where the new bytes
 //! stand whole.
 //!
-//! Each test goes on for 40 seconds at most, as it does on a busy machine; `BARTHOVIN_FAULTS=10` makes ten times as many of what is random,
-//! however long that takes.
+//! 200 runs are killed at random moments, however long that takes. Each other test begins nothing more after 40 seconds, as may be on a busy machine.
+//! `BARTHOVIN_FAULTS=10` makes ten times as many of what is random, and then no test minds the clock.
 
 mod common;
 
@@ -13,13 +13,14 @@ use barthovin::reader::bundle::{put_end, put_section};
 use common::*;
 use std::fs::{self, Metadata, Permissions};
 use std::os::unix::fs::{chown, MetadataExt, PermissionsExt};
-use std::os::unix::process::CommandExt;
+use std::os::unix::process::{CommandExt, ExitStatusExt};
 use std::path::PathBuf;
 use std::process::{Command, Output, Stdio};
 use std::thread::sleep;
 use std::time::{Duration, Instant};
 
 const NOBODY: u32 = 65_534;
+const SIGKILL: i32 = 9;
 
 /// How the output stands there.
 #[derive(Clone, Copy, Debug, PartialEq)]
@@ -54,9 +55,14 @@ impl Patience {
         self.asked.is_some() || self.start.elapsed() < Duration::from_secs(40)
     }
 
-    /// How often what is random is done.
+    /// How often what is random is to be done.
+    fn planned(&self, count: usize) -> usize {
+        count * self.asked.unwrap_or(1)
+    }
+
+    /// As often as the clock allows.
     fn times(&self, count: usize) -> impl Iterator<Item = usize> + '_ {
-        (0..count * self.asked.unwrap_or(1)).take_while(|_| self.lasts())
+        (0..self.planned(count)).take_while(|_| self.lasts())
     }
 }
 
@@ -445,6 +451,8 @@ impl Random {
     }
 }
 
+/// As many runs as are planned are killed, however long that takes. A run that ends before it is killed is none of them; where most do, the moments are
+/// wrong, and that fails.
 #[test]
 fn runs_that_are_killed() {
     let mut scenes = scenes("killed", [100_000, 300_000]);
@@ -452,22 +460,28 @@ fn runs_that_are_killed() {
     let patience = Patience::new();
     scenes.iter_mut().for_each(|scene| scene.can_be_done("before"));
     let written = scenes.iter().filter(|scene| !scene.is_refused()).count();
-    let usual = patience.start.elapsed() / written as u32;
-    let mut met = [0; 3];
-    for number in patience.times(200) {
+    let mut usual = patience.start.elapsed() / written as u32;
+    let (planned, mut killed, mut runs, mut met) = (patience.planned(200), 0, 0, [0; 3]);
+    while killed < planned {
+        assert!(runs < 10 * planned, "of {runs} runs {killed} were killed before they ended, and not {planned}");
         let count = scenes.len();
-        let scene = &mut scenes[number % count];
+        let scene = &mut scenes[runs % count];
         scene.lay();
         let mut run = command(&scene.home, &scene.call.words().split(' ').collect::<Vec<_>>()).spawn().unwrap();
         sleep(usual.mul_f64(random.below(1_000) as f64 / 800.0));
         run.kill().unwrap();
         let output = run.wait_with_output().unwrap();
-        let about = format!("run {number}, {:?} {:?}", scene.shape, scene.call);
+        let about = format!("run {runs}, {:?} {:?}", scene.shape, scene.call);
         met[scene.after_a_kill(&output, &about)] += 1;
+        let is_killed = output.status.signal() == Some(SIGKILL);
+        killed += usize::from(is_killed);
+        runs += 1;
+        // Of five runs three are to be killed and two to end, so that all moments of a run are met whatever else the machine does.
+        usual = usual.mul_f64(if is_killed { 1.02 } else { 0.97 });
     }
     let left: usize = scenes.iter().map(|scene| scene.left().len()).sum();
     println!(
-        "killed: {met:?} old, new and half copied over two links by force; {left} hidden files left; a run takes {usual:?}"
+        "{killed} of {runs} runs were killed; after them {met:?} old, new and half copied over two links by force; {left} hidden files left; a run takes {usual:?}"
     );
     assert!(met[0] > 0 && met[1] > 0, "{met:?}");
 }
