@@ -216,7 +216,7 @@ struct barthovin_carried_answer {
 };
 
 /* Whether packing carries all of a bundle that a reader could ask for: the strings of each str, and whatever the abbreviation tables of its
- * units name. Macro and line sections are not asked. 47: a string that no entry names. 48: a form that counts from the front of a section
+ * units name. Macro and line sections and expressions are not asked. 47: a string that no entry names. 48: a form that counts from the front of a section
  * which packing joins, or which isn't there, or one that a table doesn't show (hexadecimal 0E, 10, 16, 1C, 1D, 1F, 24, 1F20, 1F21). Else
  * the code is packing's: 1 to 8, 10 to 13, 15 or 16. Work is lent as for packing, and is zeros after every answer. */
 struct barthovin_carried_answer barthovin_carried(const uint8_t *bundle, size_t bundle_length, uint32_t *work,

@@ -217,6 +217,20 @@ fn what_is_not_packed_is_told() {
         "{told}"
     );
     assert_eq!((text(&output), status(&output)), (String::new(), 1));
+    // So does a section that is compressed in the older way, as gcc -gz=zlib-gnu does it where that makes it shorter, and one named as of an object file.
+    for section in [".zdebug_lin.dwo", ".debug_line_str"] {
+        let older = renamed(&real_file("gcc-5-main"), ".debug_line.dwo", section);
+        fs::write(home.join("older.dwo"), older).unwrap();
+        let told = message(&run_in(&home, &["pack", "--force", "older.dwo", "-o", "older.package"], &[]));
+        assert!(told.contains(&format!("barthovin: {section} is not packed, ")), "{told}");
+        let output = run_in(&home, &["verify", "older.package", "older.dwo"], &[]);
+        let told = message(&output);
+        assert!(
+            told.contains(&format!("older.dwo: its {section}, ")) && told.ends_with(": keep the files\n"),
+            "{told}"
+        );
+        assert_eq!((text(&output), status(&output)), (String::new(), 1));
+    }
     lost("more.dwo", "gcc-5-race");
     let told = message(&run_in(&home, &["pack", "lost.dwo", "more.dwo", "-o", "package"], &[]));
     assert!(told.starts_with(start) && told.ends_with(" bytes of lost.dwo and 1 more\n"), "{told}");
@@ -224,4 +238,6 @@ fn what_is_not_packed_is_told() {
     fs::write(home.join("single.o"), renamed(&real_file("gcc-5-race"), ".debug_line.dwo", ".debug_info\0\0\0\0"))
         .unwrap();
     done(&home, &["pack", "single.o", "-o", "single.package"]);
+    let told = text(&run_in(&home, &["verify", "single.package", "single.o"], &[]));
+    assert!(told.ends_with("; single.o has code or data besides: keep it\n"), "{told}");
 }

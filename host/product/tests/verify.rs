@@ -67,7 +67,7 @@ fn what_was_packed_is_found() {
         }
     }
     let output = run_in(&home, &["verify", "-", EXAMPLE, "--json"], &bytes(PACKAGE));
-    let told = "{\"verified\":true,\"units\":1,\"repeats\":0,\"namesakes\":0,\"strings\":0,\"files\":1,\"objects\":1,\"with_code\":[],\"not_read\":[\"line\",\"macro\"],\"faults\":[]}\n";
+    let told = "{\"verified\":true,\"units\":1,\"repeats\":0,\"namesakes\":0,\"strings\":0,\"files\":1,\"objects\":1,\"with_code\":[],\"not_read\":[\"expressions\",\"line\",\"macro\"],\"faults\":[]}\n";
     assert_eq!((text(&output), status(&output)), (told.to_string(), 0));
 }
 
@@ -180,6 +180,27 @@ fn a_file_with_code_is_kept() {
     told(&[&files[1]], "the files may be deleted");
     let json = text(&run_in(&home, &["verify", "--json", "package", "main.o", &files[1]], &[]));
     assert!(json.contains(",\"with_code\":[\"main.o\"],\"not_read\":"), "{json}");
+    // A symbol for others does: data that is common has no section.
+    let gcc = files.iter().find(|file| file.contains("/gcc-")).unwrap();
+    let mut object = fs::read(gcc).unwrap();
+    let field = |at: usize, width: usize| number(&object, at, width, false).unwrap() as usize;
+    let mut headers = (0..field(60, 2)).map(|which| field(40, 8) + 64 * which);
+    let symbol = headers.find(|at| field(at + 4, 4) == 2).map(|at| field(at + 24, 8) + 24).unwrap();
+    object[symbol + 4] |= 0x10;
+    fs::write(home.join("common.o"), &object).unwrap();
+    assert_eq!(status(&run_in(&home, &["pack", "common.o", "-o", "common.package"], &[])), 0);
+    let output = run_in(&home, &["verify", "common.package", "common.o"], &[]);
+    assert!(text(&output).ends_with("; common.o has code or data besides: keep it\n"), "{}", text(&output));
+    // So does what is left to the linker by -flto, of which no section is loaded.
+    fs::write(home.join("late.o"), renamed(&files[0], ".debug_st", ".gnu.lto_")).unwrap();
+    let late = renamed(home.join("late.o").to_str().unwrap(), ".debug_", ".other_");
+    fs::write(home.join("late.o"), late).unwrap();
+    let output = run_in(&home, &["verify", "package", &files[1], "late.o"], &[]);
+    assert!(
+        text(&output).ends_with(&format!("; late.o has code or data besides: keep it{rest}\n")),
+        "{}",
+        text(&output)
+    );
 }
 
 /// Where nothing was looked for, nothing is found.

@@ -9,10 +9,10 @@ use crate::names::{section_name, WORK_FOR_A_WORD};
 use std::ffi::OsString;
 
 /// What isn't looked into, said wherever files may go.
-pub const NOT_READ: &str = "line and macro sections were not looked into for references by offset";
+pub const NOT_READ: &str = "location expressions, line and macro sections were not looked into for references by offset";
 
-/// The sections by their names.
-pub const SECTIONS_NOT_READ: [&str; 2] = ["line", "macro"];
+/// The same by names.
+pub const NAMES_NOT_READ: [&str; 3] = ["expressions", "line", "macro"];
 
 /// Forms that count from the front of a section which is joined, or which is in no package, and the one by which a unit names its form itself.
 const FORMS: [(u64, &str); 9] = [

@@ -13,14 +13,19 @@ struct Layout {
     /// Of a section header.
     offset: usize,
     size: usize,
+    /// The length of a symbol, and where its binding stands in it, two bytes before the number of its section.
+    symbol: usize,
+    binding: usize,
 }
 
-const WIDE: Layout = Layout { width: 8, headers: 40, lengths: 58, offset: 24, size: 32 };
-const NARROW: Layout = Layout { width: 4, headers: 32, lengths: 46, offset: 16, size: 20 };
+const WIDE: Layout = Layout { width: 8, headers: 40, lengths: 58, offset: 24, size: 32, symbol: 24, binding: 4 };
+const NARROW: Layout = Layout { width: 4, headers: 32, lengths: 46, offset: 16, size: 20, symbol: 16, binding: 12 };
 
 /// The header is as long, and a section header at most.
 const HEADER: usize = 64;
 const RELOCATABLE: u64 = 1;
+/// A section of symbols.
+const SYMBOLS: u64 = 2;
 /// A section that the program has when it runs.
 const LOADED: u64 = 2;
 /// The longest names that are looked at.
@@ -87,6 +92,25 @@ impl<'f> Frame<'f> {
         };
         let count = self.field(&self.header, self.layout.lengths + 2, 2);
         (0..count).any(|which| self.section(which).is_ok_and(is_loaded))
+            || (0..count).any(|which| self.section(which).is_ok_and(|section| self.defines(&section)))
+            || self.is_linked()
+    }
+
+    /// Whether symbols name what is in the file for others: data that is common has no section.
+    fn defines(&self, section: &[u8; HEADER]) -> bool {
+        let Layout { width, offset, size, symbol, binding, .. } = self.layout;
+        let mut symbols = vec![0; self.field(section, size, width).min(LONGEST_NAMES) as usize];
+        let is_for_others = |one: &[u8]| one[binding] >> 4 != 0 && self.field(one, binding + 2, 2) != 0;
+        self.field(section, 4, 4) == SYMBOLS
+            && (self.read)(&mut symbols, self.field(section, offset, width)).is_ok()
+            && symbols.chunks_exact(symbol).any(is_for_others)
+    }
+
+    /// Whether the linker takes sections that no program loads: a unit that leads to the split one, or what -flto puts off.
+    fn is_linked(&self) -> bool {
+        let names = self.names().unwrap_or_default();
+        let mut names = names.split(|b| *b == 0);
+        names.any(|name| name.ends_with(b".debug_info") || name.starts_with(b".gnu.lto_"))
     }
 }
 

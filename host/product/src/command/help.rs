@@ -115,9 +115,9 @@ this program reads it. Of type units with one signature the package has the firs
 other bytes, since they count strings and abbreviations as their own file does. They are counted besides; no lookup finds their own parts.
 Where files were added to a package, a copy of that package in front stands for those that were packed before. What a file names that no
 package holds is told, and the file is to be kept: a string that no entry names, or an attribute that names its value by an offset which
-counts from the front of a section. Line and macro sections are not looked into for that. Of the files only the debug sections are
-compared, the rest is not in the package. Where no unit was looked for, or a file has code or data besides, that is said, and it is to be
-kept.
+counts from the front of a section. Location expressions, line and macro sections are not looked into for that. Of the files only the
+debug sections are compared, the rest is not in the package. Where no unit was looked for, or a file has anything that the linker takes
+besides (code, data, a unit that leads to the split one), that is said, and it is to be kept.
 
       --json      write the answer as a JSON object
   -h, --help      show this help and exit

@@ -20,10 +20,9 @@ impl Uncarried {
         }
     }
 
-    /// The first file of each section that a .dwo file has, and what is missing: whoever deletes the file loses it.
+    /// The first file of each section, and what is missing: whoever deletes the file loses it.
     pub fn faults(&self) -> impl Iterator<Item = (String, String)> + '_ {
-        let lost = self.sections.iter().filter(|(section, _)| section.ends_with(".dwo"));
-        lost.map(|(section, (bytes, _, first))| {
+        self.sections.iter().map(|(section, (bytes, _, first))| {
             (first.clone(), format!("its {section}, {bytes} bytes, is in no package, which has no place for it"))
         })
     }

@@ -2,7 +2,7 @@
 //! and compare. Which file hands a unit in is read by the host, and said so.
 
 use super::call::{Call, Known};
-use super::carrying::{uncarried, NOT_READ, SECTIONS_NOT_READ};
+use super::carrying::{uncarried, NAMES_NOT_READ, NOT_READ};
 use super::files::{good_package, join, listed, Joined};
 use super::pack::{packed, refusal};
 use super::{guard, input, output, progress, show, Stop, DONE, NOT_DONE};
@@ -184,7 +184,7 @@ impl Report {
             self.files.len(),
             self.objects().unwrap_or_default(),
             with_code.join(","),
-            SECTIONS_NOT_READ.map(show::json).join(","),
+            NAMES_NOT_READ.map(show::json).join(","),
             faults.join(",")
         )
     }

@@ -218,7 +218,8 @@ pub fn has_no_debug(file: &[u8]) -> bool {
     File::of(file).sections().is_some_and(|sections| !sections.iter().any(is_debug))
 }
 
-/// The sections with debug information that packages have no place for, and their lengths. An object file also has those that the linker takes; of it only
+/// The sections with debug information that packages have no place for, also those of which the reader sees nothing since they are compressed in the older
+/// way or put off until the link, and their lengths. An object file also has those that the linker takes; of it only
 /// those that a .dwo file would have count.
 pub fn uncarried(file: &[u8]) -> Vec<(String, u64)> {
     let file = File::of(file);
@@ -226,7 +227,9 @@ pub fn uncarried(file: &[u8]) -> Vec<(String, u64)> {
     let is_object = sections.iter().any(|section| section.name == b".debug_info");
     let is_lost = |section: &&Section| {
         let name = section.name;
-        name.starts_with(b".debug_") && code(name).is_none() && (!is_object || name.ends_with(b".dwo"))
+        DEBUG.iter().any(|start| name.starts_with(start))
+            && code(name).is_none()
+            && (!is_object || name.ends_with(b".dwo"))
     };
     let size = |section: &Section| file.word(section.header, file.class.size).unwrap_or(0);
     let with_bytes = |section: &&Section| file.half(section.header, KIND) != Some(WITHOUT_BYTES) && size(section) > 0;

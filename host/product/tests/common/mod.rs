@@ -18,9 +18,9 @@ pub const PACKAGE: &str =
 
 /// What `verify` says behind the counts where all is found and nothing was skipped; and its end.
 pub const ALL_FOUND: &str =
-    ": all found; line and macro sections were not looked into for references by offset; the files may be deleted\n";
+    ": all found; location expressions, line and macro sections were not looked into for references by offset; the files may be deleted\n";
 pub const MAY_GO: &str =
-    "; line and macro sections were not looked into for references by offset; the files may be deleted\n";
+    "; location expressions, line and macro sections were not looked into for references by offset; the files may be deleted\n";
 
 /// The bytes of words in hexadecimal.
 pub fn bytes(text: &str) -> Vec<u8> {
