@@ -1,10 +1,10 @@
-/* Says whether a package, whoever wrote it, holds what files hand in, from C: joins the files, packs them, and has the package held against them. Once
- * `make library` has written the library, in this folder:
+/* Says whether a package, whoever wrote it, holds what files hand in, from C: joins the files, packs them, and has the package held against them. Where it
+ * does, asks whether packing carries all that the files name: who deletes files asks both. Once `make library` has written the library, in this folder:
  *
  *     cc -I ../host/product/include verify_package.c ../target/staticlib/libbarthovin.a -o verify_package
  *     ./verify_package real/packages/llvm-5-gcc.dwp real/files/gcc-5-main.dwo real/files/gcc-5-race.dwo
  *
- * The status is 0 where it holds them, 1 where it doesn't, and 2 where that can't be said. */
+ * The status is 0 where it holds them and nothing is found that packing doesn't carry, 1 where the files are to be kept, and 2 where that can't be said. */
 
 #include "barthovin.h"
 #include <inttypes.h>
@@ -52,7 +52,18 @@ static size_t joined(const char *name, size_t used) {
     return answer.length;
 }
 
-/* Says what came of it; the status. */
+/* Says whether packing carries what the files name; the status. Line and macro sections are not asked. By any code but 0 the files are kept. */
+static int carried_told(struct barthovin_carried_answer carried) {
+    if (carried.code == BARTHOVIN_DONE) {
+        printf("packing carries what they name; line and macro sections were not asked\n");
+        return 0;
+    }
+    printf("keep the files: object %zu, section %u, byte %zu: %u\n", carried.object + 1, (unsigned)carried.section,
+           carried.place, (unsigned)carried.code);
+    return 1;
+}
+
+/* Says what came of verifying; the status. */
 static int told(struct barthovin_verified verified, struct barthovin_packed packed) {
     if (verified.code == BARTHOVIN_DONE) {
         printf("it holds them; %zu repeats, %zu namesakes\n", packed.repeats, packed.namesakes);
@@ -72,7 +83,7 @@ int main(int count, char **arguments) {
     struct barthovin_packed packed;
     size_t used = 0, length, words;
     uint32_t version;
-    int i;
+    int i, status;
     if (count < 3 || !read_file(arguments[1], &length)) {
         fprintf(stderr, "verify_package PACKAGE FILE...\n");
         return 2;
@@ -96,5 +107,6 @@ int main(int count, char **arguments) {
     }
     /* The package states the files' version of DWARF behind its first word. */
     version = output[4] == 4 ? BARTHOVIN_VERSION_4_INDEX : BARTHOVIN_VERSION_5_INDEX;
-    return told(barthovin_verify(bundle, used, work, words, output, sizeof output, package, opened.length, version), packed);
+    status = told(barthovin_verify(bundle, used, work, words, output, sizeof output, package, opened.length, version), packed);
+    return status == 0 ? carried_told(barthovin_carried(bundle, used, work, words)) : status;
 }

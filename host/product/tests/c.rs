@@ -61,7 +61,8 @@ fn the_example_in_c_joins_and_packs() {
     assert_eq!((refused.stderr, refused.status.code()), (wanted, Some(1)));
 }
 
-/// A package of another maker held against its files, and against one more; a file that can't be packed with them is told.
+/// A package of another maker held against its files, and against one more; a file that can't be packed with them is told. Files are kept where packing
+/// doesn't carry what they have, though the package holds all that it carries.
 #[test]
 fn the_example_in_c_verifies() {
     let source = PathBuf::from(HOME).join("../../examples/verify_package.c");
@@ -70,7 +71,24 @@ fn the_example_in_c_verifies() {
         ["gcc-5-main", "gcc-5-race", "clang-5-main"].map(|name| real(&format!("files/{name}.dwo")));
     let package = real("packages/llvm-5-gcc.dwp");
     let output = compiled(&source, &["-std=c99"], &[&package, &main, &race]);
-    assert_eq!((text(&output), output.status.code()), ("it holds them; 0 repeats, 0 namesakes\n", Some(0)));
+    let holds = "it holds them; 0 repeats, 0 namesakes\n";
+    let carries = format!("{holds}packing carries what they name; line and macro sections were not asked\n");
+    assert_eq!((text(&output), output.status.code()), (carries.as_str(), Some(0)));
+    // The package of a bundle whose one entry names a place inside its string: the string's front is in no package.
+    let mut bundle: Vec<u8> = BUNDLE.iter().flat_map(|w| w.to_le_bytes()).collect();
+    bundle[52] = 1;
+    let mut written = vec![0; 1000];
+    let (code, length) = ffi::pack(&bundle, &mut [0; 20 * 17], &mut written);
+    assert_eq!(code, 0);
+    let [of_bundle, bundle] =
+        [("inside.package", &written[..length]), ("inside.bundle", &bundle)].map(|(name, bytes)| {
+            let path = PathBuf::from(env!("CARGO_TARGET_TMPDIR")).join(name);
+            std::fs::write(&path, bytes).unwrap();
+            path.to_str().unwrap().to_string()
+        });
+    let output = compiled(&source, &["-std=c99"], &[&of_bundle, &bundle]);
+    let keep = format!("{holds}keep the files: object 1, section 11, byte 0: 47\n");
+    assert_eq!((text(&output), output.status.code()), (keep.as_str(), Some(1)));
     let output = compiled(&source, &["-std=c11"], &[&package, &main, &other, &race]);
     let front = "it doesn't hold them: table 1, section 1, identity ";
     assert!(text(&output).starts_with(front) && output.status.code() == Some(1), "{}", text(&output));
