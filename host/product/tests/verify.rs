@@ -82,6 +82,13 @@ fn lists_of_files_are_taken() {
     assert!(fs::read(home.join("out")).unwrap() == fs::read(home.join("other")).unwrap());
     let input = files[..3].join("\n");
     assert_eq!(status(&run_in(&home, &["verify", "out", "@-"], input.as_bytes())), 0);
+    // A line that is left out and is a file's name all the same: who deletes what the list names would delete it unpacked.
+    fs::copy(&files[0], home.join("#main.dwo")).unwrap();
+    let marked = run_in(&home, &["verify", "out", "@-"], format!("#main.dwo\n{}\n", files[1]).as_bytes());
+    let told = "barthovin: #main.dwo: the list's line starts with #, so it is left out, but a file of that name is there: write ./ in front of it\n";
+    assert_eq!((message(&marked), status(&marked)), (told.to_string(), 2));
+    let input = format!("./#main.dwo\n{}\n{}\n", files[1], files[2]);
+    assert_eq!(status(&run_in(&home, &["verify", "out", "@-"], input.as_bytes())), 0);
     let missing = run_in(&home, &["pack", "@nowhere", "-oout"], &[]);
     assert_eq!(
         (message(&missing), status(&missing)),
@@ -141,6 +148,16 @@ fn the_package_is_no_copy_of_itself() {
         assert_eq!((message(&output), status(&output)), (format!("barthovin: {file}: {itself}\n"), 2), "{call}");
         assert_eq!(text(&output), "", "{call}");
     }
+    // What came through a pipe is kept nowhere, so that a file that is that package may be its only copy.
+    let only = "it is the package that was read, which came from no file: what may be its only copy is not compared with itself";
+    for call in ["cat package | $B verify - copy", "cat package | $B verify /dev/stdin file copy"] {
+        let output = shell(&home, call);
+        assert_eq!((message(&output), status(&output)), (format!("barthovin: copy: {only}\n"), 2), "{call}");
+        assert_eq!(text(&output), "", "{call}");
+    }
+    let output = shell(&home, "cat package | $B verify - file");
+    let told = format!("1 file: 1 unit, 0 strings{ALL_FOUND}");
+    assert_eq!((text(&output).as_str(), message(&output).as_str(), status(&output)), (told.as_str(), "", 0));
     // Another file of the same bytes is a copy.
     let output = run_in(&home, &["verify", "package", "copy"], &[]);
     let told = format!("1 file: 1 unit, 0 strings{ALL_FOUND}");

@@ -9,7 +9,8 @@ use crate::names::{section_name, WORK_FOR_A_WORD};
 use std::ffi::OsString;
 
 /// What isn't looked into, said wherever files may go.
-pub const NOT_READ: &str = "location expressions, line and macro sections were not looked into for references by offset";
+pub const NOT_READ: &str =
+    "location expressions, line and macro sections were not looked into for references by offset";
 
 /// The same by names.
 pub const NAMES_NOT_READ: [&str; 3] = ["expressions", "line", "macro"];

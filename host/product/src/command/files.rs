@@ -17,6 +17,7 @@ use crate::skipped;
 use std::ffi::{OsStr, OsString};
 use std::fs;
 use std::os::unix::ffi::OsStrExt;
+use std::path::Path;
 
 /// The longest ELF file that is read; most of one may be sections that aren't wanted.
 pub const LONGEST_FILE: usize = 1 << 30;
@@ -186,9 +187,20 @@ pub fn listed(names: &[OsString]) -> Result<Vec<OsString>, Stop> {
             continue;
         };
         let list = input::read(OsStr::from_bytes(list), LONGEST_LIST)?;
+        if let Some(name) = files_left_out(&list).next() {
+            let told = "the list's line starts with #, so it is left out, but a file of that name is there: write ./ in front of it";
+            return Err(Stop::Trouble(format!("{}: {told}", input::shown(OsStr::from_bytes(name)))));
+        }
         all.extend(names_in(&list).map(|name| OsStr::from_bytes(name).to_os_string()));
     }
     Ok(all)
+}
+
+/// The lines of a list that are left out though they name a file: whoever deletes what the list names would delete it too.
+fn files_left_out(list: &[u8]) -> impl Iterator<Item = &[u8]> {
+    let lines = if list.contains(&0) { &[] } else { list };
+    let lines = lines.split(|byte| *byte == b'\n').map(|line| line.strip_suffix(b"\r").unwrap_or(line));
+    lines.filter(|line| line.starts_with(b"#") && Path::new(OsStr::from_bytes(line)).exists())
 }
 
 /// The names in a list: with a NUL between them where there is one, as `find -print0` writes them, so that a name may hold anything; else one on

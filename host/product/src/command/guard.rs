@@ -123,6 +123,11 @@ pub fn are_one_file(one: &OsStr, other: &OsStr) -> bool {
     told(one).is_ok_and(|told| told.is_file() && is_file(other, &told))
 }
 
+/// Whether what is read under a name is a file, and no pipe or device.
+pub fn is_plain(name: &OsStr) -> bool {
+    told(name).is_ok_and(|told| told.is_file())
+}
+
 /// Whether what is read under one name is the file under another. Names that lead to one place do so whatever stands there meanwhile.
 pub fn is_one_file(read: &OsStr, other: &OsStr) -> bool {
     let file = |name: &OsStr| match Place::of(name) {

@@ -36,6 +36,10 @@ pub fn run(arguments: &[OsString]) -> Result<u8, Stop> {
         return Err(Stop::Trouble(format!("{}: {told}", input::shown(file))));
     }
     let package = good_package(&call, name)?.bytes;
+    if let Some(file) = files.iter().find(|file| !guard::is_plain(name) && is_package(&call, file, &package)) {
+        let told = "it is the package that was read, which came from no file: what may be its only copy is not compared with itself";
+        return Err(Stop::Trouble(format!("{}: {told}", input::shown(file))));
+    }
     let joined = join(&call, None, &files)?;
     joined.note_left_out(files.len());
     let about = format!("packing {} again", show::count(files.len(), "file"));
@@ -53,6 +57,11 @@ pub fn run(arguments: &[OsString]) -> Result<u8, Stop> {
     let told = progress::shown(about, || compared(&report.joined.bundle, &package, version, ours.len()));
     let first = report.fault(told, &package, version)?;
     report.told(&call, first.into_iter().chain(uncarried(&report.joined, &report.files)).collect())
+}
+
+/// Whether a file is this package, as a package or as an ELF file. Standard input is not read for it.
+fn is_package(call: &Call, file: &OsString, package: &[u8]) -> bool {
+    guard::is_plain(file) && file != "-" && good_package(call, file).is_ok_and(|taken| taken.bytes[..] == *package)
 }
 
 /// What packing says of a single file that is no bundle.
