@@ -3,6 +3,7 @@ ghost use Rattle.std.specs.Prelude.{◌≡◌, ◌<◌, map};
 ghost use Rattle.numbers.specs.Sections.{section_codes};
 ghost use Rattle.archive_tables.specs.NameRule.{words, word_of, name_by_rule};
 
+use numbers::names::NAME_LIMIT;
 use numbers::sections::{CODES, STR};
 use std::io;
 
@@ -22,9 +23,6 @@ const WORDS: [&[u8]; 13] = [
     b"cu_index",
     b"tu_index",
 ];
-
-// The length of the longest name.
-const NAME_LIMIT: usize = 22;
 
 // The one place that reads the words.
 #[tactic(auto, unfolding(crate::specs::NameRule::words))]

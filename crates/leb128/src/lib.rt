@@ -10,7 +10,7 @@ use numbers::refusals::Refusal;
 
 // What a number of bytes say: they hold the last byte of a number, or none of them is the last, or there are not so many.
 #[derive(Clone, Copy)]
-enum Groups {
+pub enum Groups {
     Ended(u64, usize),
     Open(u64),
     Cut,

@@ -4,6 +4,9 @@ ghost use Rattle.numbers.specs.Names.{section_names, section_name};
 
 use crate::sections::CODES;
 
+// The length of the longest name.
+pub const NAME_LIMIT: usize = 22;
+
 // By code; no section has code 0.
 const NAMES: [&[u8]; CODES] = [
     b"",
