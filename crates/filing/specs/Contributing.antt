@@ -13,6 +13,7 @@ use Rattle.index.specs.declared.judging.OwnUnit.{OwnUnit}
 use Rattle.package.specs.Input.{Input}
 use Rattle.package.specs.Filing.{contributions_of}
 use Rattle.filing.specs.declared.input.InputObject.{InputObject}
+use Rattle.filing.specs.declared.contributions.ReadUnit.{ReadUnit}
 use Rattle.unit.specs.Headers.{unit_is}
 use Rattle.unit.specs.declared.header.UnitRead.{UnitRead}
 use Rattle.filing.specs.Tells.{Tells}
@@ -33,6 +34,11 @@ GivenIs c r = Tells ContributionsAre c r
 -- by measures and a unit by value
 abbrev pub GivenBy : Bool → Option Index → Measures → OwnUnit → Result Contributions Refusal → Type 0
 GivenBy packed o m u r = GivenIs (contributions_by packed o m.width (by_code m.lengths) u.identity u.home u.at u.size) r
+
+-- of a unit whose table is any number, for any object
+abbrev pub GivenByNumber : List ℕ → InputObject → ℕ → ℕ → ReadUnit → Result Contributions Refusal → Type 0
+GivenByNumber b x home at u r =
+    (i : Input) → InputIs b x i → GivenIs (contributions_of i home at (record { size = u.size; table = u.table; identity = u.identity })) r
 
 -- of a unit that was read, for any object
 abbrev pub ContributionsGiven : List ℕ → InputObject → ℕ → ℕ → UnitRead → Result Contributions Refusal → Type 0
