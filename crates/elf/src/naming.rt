@@ -6,7 +6,7 @@ ghost use Rattle.elf.specs.File.{starts_with, code_among, code_of};
 ghost use Rattle.elf.specs.Held.{header_is, code_found, LastZeroAt};
 
 use crate::file::{ElfFile, Header};
-use numbers::names::section_name;
+use numbers::names::section_names;
 use numbers::sections::CODES;
 
 // Whether s starts with a name and the zero that ends it.
@@ -18,11 +18,13 @@ fn starts_with(s: &[u8], name: &[u8]) -> bool
     n < s.len() && s[n] == 0 && octets::same_bytes(&s[..n], name)
 }
 
-// The code of the name that s starts with, if it is one's.
+// The code of the name that s starts with, if it is one's. The table of names is taken once, in
+// front of the search: a constant table is stored anew wherever it is named.
 fn code_at(s: &[u8]) -> Option<usize>
     ensures { result ≡ code_found (code_among (drop 1 section_names) 1 s.now) }
 {
-    (1..CODES).find(|code| starts_with(s, section_name(*code)))
+    let names = section_names();
+    (1..CODES).find(|code| starts_with(s, names[*code]))
 }
 
 impl ElfFile<'_> {
