@@ -9,9 +9,7 @@ use native.Mathlib.Omega.{arith}
 use native.Mathlib.Nat.{sub-zero}
 use native.Mathlib.Decide.{ℕ_discrete}
 use lib.ListN.{length}
-use Rattle.std.specs.Prelude.{Some}
 use Rattle.octets.specs.Octets.{zeros, padded, part}
-use Rattle.octets.specs.Options.{found}
 use Rattle.octets.specs.Checked.{Check, pass, refuse, mapped}
 use Rattle.octets.proofs.Checks.{pass_inj, pass_refuse}
 use Rattle.octets.proofs.Parts.{length_part_le}
@@ -66,10 +64,6 @@ section_short p k e c = ⊎_elim
     holding o f q = rw (sym q) (at o f (first_part o.parts c) refl)
 
 -- ---- the index of a table
-pub there : {A : Type 0} (o : Option A) (a : A) → Some a ≡ found o → o ≡ some a
-there (some b) a e = cc
-there none a e = absurd (let z : ◌≡◌ {A = ℕ} 0 1 = cc in omega arith)
-
 pub table_here : (p : List ℕ) (h : PackageHead) → Opened p h → (table : ℕ) (i : Index) → index_for (package_in p) table ≡ some i → IndexHere i
 table_here p h o table i e =
     index_here (package_in p).encoding.big (body p (package_in p).parts (index_code table)) i (index_known p (package_in p) o.is table i e)

@@ -24,13 +24,13 @@ use index::reading::Index;
 const MARK_WORDS: usize = 16_384;
 
 // The index of a table: the letter of its lines, and our codes of the sections of its columns, which are worked out once and not for each line.
-#[derive(Drop)]
-pub struct IndexTable<'a> {
+#[derive(Clone, Copy)]
+pub struct IndexTable<'i, 'a> {
     pub letter: u8,
-    pub index: Index<'a>,
+    pub index: &'i Index<'a>,
     pub sections: [usize; COLUMNS],
-    pub ghost here: { IndexHere index },
-    pub ghost coded: { Sections index sections (length index.codes) },
+    pub ghost here: { IndexHere index.now },
+    pub ghost coded: { Sections index.now sections (length index.now.codes) },
 }
 
 // A line's number for a column of no section, as the definition `section_in` has it. An index that was read has no such column.
@@ -68,13 +68,13 @@ fn all_marked(marks: &Marks, n: usize) -> bool
     (1..n + 1).all(|row| marks.has(row))
 }
 
-impl<'a> IndexTable<'a> {
+impl<'i, 'a> IndexTable<'i, 'a> {
     // The table of an index with as many slots as marks at most, and rows within its units.
-    pub fn of(letter: u8, index: Index<'a>) -> IndexTable<'a>
-        requires { IndexHere index }
-        ensures { (result.index ≡ index.entry) × (result.letter ≡ letter) }
+    pub fn of(letter: u8, index: &'i Index<'a>) -> IndexTable<'i, 'a>
+        requires { IndexHere index.now }
+        ensures { (result.index.now ≡ index.now) × (result.letter ≡ letter) }
     {
-        let sections = sections_of(&index);
+        let sections = sections_of(index);
         IndexTable {
             letter,
             index,
@@ -85,9 +85,9 @@ impl<'a> IndexTable<'a> {
     // ---- one slot for each row
     // Whether no row stands in two slots; then each row in a slot is marked. From the last slot to the first.
     fn mark_rows(&self, marks: &mut Marks) -> bool
-        requires { (length self.now.index.rows ≤ 32 * length marks.old.words.now) × (marks.old.words.now ≡ zeros (length marks.old.words.now)) }
-        ensures once { result ≡ none_twice self.now.index.rows }
-        ensures marks { result ≡ true → Marked marks.new.words.now self.now.index.rows }
+        requires { (length self.now.index.now.rows ≤ 32 * length marks.old.words.now) × (marks.old.words.now ≡ zeros (length marks.old.words.now)) }
+        ensures once { result ≡ none_twice self.now.index.now.rows }
+        ensures marks { result ≡ true → Marked marks.new.words.now self.now.index.now.rows }
         ensures kept { length marks.new.words.now ≡ length marks.old.words.now }
     {
         for k in (0..self.index.head().slots).rev() {
@@ -104,7 +104,7 @@ impl<'a> IndexTable<'a> {
 
     #[tactic(auto, using(crate::proofs::LawIndex::is_single, crate::proofs::LawIndex::not_single), unfolding(octets::specs::Octets::zeros))]
     pub fn is_single(&self) -> bool
-        ensures { result ≡ single self.now.index.rows self.now.index.identities 1 self.now.index.units }
+        ensures { result ≡ single self.now.index.now.rows self.now.index.now.identities 1 self.now.index.now.units }
     {
         let mut words = [0; MARK_WORDS];
         let mut marks = Marks { words: &mut words };
@@ -114,7 +114,7 @@ impl<'a> IndexTable<'a> {
     // ---- lines
     // The bytes that they take.
     pub fn size(&self) -> usize
-        ensures { result ≡ line_bytes * length self.now.index.codes * self.now.index.units }
+        ensures { result ≡ line_bytes * length self.now.index.now.codes * self.now.index.now.units }
     {
         let head = self.index.head();
         LINE * head.columns * head.units
@@ -122,8 +122,8 @@ impl<'a> IndexTable<'a> {
 
     // The line of a row, counted from 1, in column k. By its number: a `Row` of this index would hold the index again, and that it is this one would have to be said.
     fn line_of(&self, row: usize, identity: u64, k: usize) -> Line
-        requires { (0 < row) × (row ≤ self.now.index.units) × (k < length self.now.index.codes) }
-        ensures { CellLine self.now.letter self.now.index identity k ((row - 1) * length self.now.index.codes + k) result }
+        requires { (0 < row) × (row ≤ self.now.index.now.units) × (k < length self.now.index.now.codes) }
+        ensures { CellLine self.now.letter self.now.index.now identity k ((row - 1) * length self.now.index.now.codes + k) result }
     {
         let cell = self.index.cell_at(row, k);
         Line {
@@ -138,8 +138,8 @@ impl<'a> IndexTable<'a> {
     // Stores the lines of a row.
     #[tactic(auto, using(crate::proofs::LawBlocks::cell_turns))]
     fn put_row(&self, row: usize, identity: u64, d: &mut [u8], at: usize)
-        requires { (0 < row) × (row ≤ self.now.index.units) × (at + line_bytes * length self.now.index.codes ≤ length d.old) }
-        ensures { d.new ≡ placed d.old at (row_lines self.now.letter self.now.index row identity) }
+        requires { (0 < row) × (row ≤ self.now.index.now.units) × (at + line_bytes * length self.now.index.now.codes ≤ length d.old) }
+        ensures { d.new ≡ placed d.old at (row_lines self.now.letter self.now.index.now row identity) }
     {
         for k in 0..self.index.head().columns {
             self.line_of(row, identity, k).put(d, at + LINE * k);
@@ -148,8 +148,8 @@ impl<'a> IndexTable<'a> {
 
     // Stores the lines of all rows, each where its slot is met, over zeros. From the last slot to the first.
     pub fn put_rows(&self, d: &mut [u8])
-        requires { (line_bytes * length self.now.index.codes * self.now.index.units ≤ length d.old) × (d.old ≡ zeros (length d.old)) }
-        ensures { d.new ≡ laid_out self.now.letter self.now.index (length d.old) }
+        requires { (line_bytes * length self.now.index.now.codes * self.now.index.now.units ≤ length d.old) × (d.old ≡ zeros (length d.old)) }
+        ensures { d.new ≡ laid_out self.now.letter self.now.index.now (length d.old) }
     {
         let head = self.index.head();
         let block = LINE * head.columns;

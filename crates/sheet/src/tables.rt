@@ -5,9 +5,11 @@ ghost use Rattle.numbers.specs.Refused.{told};
 ghost use Rattle.octets.specs.Checked.{mapped};
 ghost use Rattle.lookup.specs.Lookup.{index_for};
 ghost use Rattle.lookup.specs.Answers.{package_in};
+ghost use Rattle.sheet.specs.Held.{IndexHere};
 ghost use Rattle.sheet.specs.Laid.{letter_of, table_of, both_of, lines_of, TableFits, BothFit};
 
 use crate::rows::IndexTable;
+use index::reading::Index;
 use lookup::package::Package;
 use numbers::refusals::Refusal;
 use numbers::tables::{COMPILATION, TYPE};
@@ -21,13 +23,13 @@ fn letter_of(table: u32) -> u8
 }
 
 // The index of a table, if it is there.
-fn index_of<'a>(package: &Package<'a>, table: u32) -> Option<IndexTable<'a>>
+#[tactic(auto, using(crate::proofs::LawTables::table_here))]
+fn index_of<'a>(package: &Package<'a>, table: u32) -> Option<Index<'a>>
     ensures { MatchOption result
         (index_for (package_in «package».now.bytes.now) table ≡ none)
-        (λ t. (index_for (package_in «package».now.bytes.now) table ≡ some t.index) × (t.letter ≡ letter_of table)) }
+        (λ i. (index_for (package_in «package».now.bytes.now) table ≡ some i) × IndexHere i) }
 {
-    let index = package.index(table)?;
-    Some(IndexTable::of(letter_of(table), index))
+    package.index(table)
 }
 
 // Refused is a table with a row that has not exactly one slot.
@@ -35,10 +37,14 @@ fn index_of<'a>(package: &Package<'a>, table: u32) -> Option<IndexTable<'a>>
 pub fn measure_table(package: &Package, table: u32) -> Result<usize, Refusal>
     ensures { told result ≡ mapped length (table_of «package».now.bytes.now table) }
 {
-    match index_of(package, table) {
-        Some(t) if t.is_single() => Ok(t.size()),
-        Some(_) => Err(Refusal::BadPackage),
-        None => Ok(0),
+    let Some(index) = index_of(package, table) else {
+        return Ok(0);
+    };
+    let t = IndexTable::of(letter_of(table), &index);
+    if t.is_single() {
+        Ok(t.size())
+    } else {
+        Err(Refusal::BadPackage)
     }
 }
 
@@ -48,8 +54,8 @@ fn write_table(package: &Package, table: u32, page: &mut [u8])
     requires { TableFits «package».now.bytes.now table page.old }
     ensures { page.new ≡ lines_of (table_of «package».now.bytes.now table) (length page.old) }
 {
-    if let Some(t) = index_of(package, table) {
-        t.put_rows(page);
+    if let Some(index) = index_of(package, table) {
+        IndexTable::of(letter_of(table), &index).put_rows(page);
     }
 }
 

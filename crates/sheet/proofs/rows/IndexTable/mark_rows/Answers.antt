@@ -15,7 +15,7 @@ loop-k-init c = (refl, sifted_none _ _ _ _ c.requires.1 (omega (arith, ap (λ z.
 next : (r : After-row_at-row) → r.loop-k.k ≡ suc (r.loop-k.k - 1)
 next r = omega (arith, r.loop-k-test.true)
 
-inside : (r : After-row_at-row) → r.loop-k.k - 1 < length r.args.self.now.index.rows
+inside : (r : After-row_at-row) → r.loop-k.k - 1 < length r.args.self.now.index.now.rows
 inside r = omega (arith, r.loop-k.auto.k, r.loop-k-test.true, ap (λ z. z.slots) r.head-k.ensures)
 
 row_fits : (r : After-row_at-row) → r.row_at-row.result / 32 < length r.loop-k.marks.words.now

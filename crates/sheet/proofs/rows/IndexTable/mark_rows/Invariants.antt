@@ -5,4 +5,4 @@ use Rattle.sheet.proofs.LawSifted.{Sifted}
 use Rattle.sheet.proofs.rows.IndexTable.mark_rows.Given as goal
 
 abbrev pub invariant-loop-k : goal.invariant-loop-k
-invariant-loop-k l = (length l.marks.words.now ≡ length l.fn.marks.words.now) × Sifted l.marks.words.now l.self.index.rows l.k
+invariant-loop-k l = (length l.marks.words.now ≡ length l.fn.marks.words.now) × Sifted l.marks.words.now l.self.index.now.rows l.k

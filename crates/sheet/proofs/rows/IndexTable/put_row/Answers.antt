@@ -8,7 +8,7 @@ use Rattle.sheet.proofs.rows.IndexTable.put_row.Goals as goal
 use Rattle.sheet.proofs.rows.IndexTable.put_row.Goals.{In-loop-k}
 
 -- in a turn: the column is there, and there is room for its line
-column : (i : In-loop-k) → i.loop-k.k < length i.args.self.now.index.codes
+column : (i : In-loop-k) → i.loop-k.k < length i.args.self.now.index.now.codes
 column i = omega (arith, i.loop-k-test.true, ap (λ z. z.columns) i.head-k-end.ensures)
 
 room : (i : In-loop-k) → i.args.at + 40 * i.loop-k.k + 40 ≤ length i.loop-k.d

@@ -8,5 +8,5 @@ use Rattle.sheet.proofs.rows.IndexTable.put_row.Given as goal
 
 abbrev pub invariant-loop-k : goal.invariant-loop-k
 invariant-loop-k l = (length l.d ≡ length l.initial.d)
-    × (placed l.d (l.at + 40 * l.k) (cell_lines l.self.letter l.self.index l.identity ((l.row - 1) * length l.self.index.codes + l.k) (drop l.k l.self.index.codes))
-    ≡ placed l.initial.d l.at (row_lines l.self.letter l.self.index l.row l.identity))
+    × (placed l.d (l.at + 40 * l.k) (cell_lines l.self.letter l.self.index.now l.identity ((l.row - 1) * length l.self.index.now.codes + l.k) (drop l.k l.self.index.now.codes))
+    ≡ placed l.initial.d l.at (row_lines l.self.letter l.self.index.now l.row l.identity))
