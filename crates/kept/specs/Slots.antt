@@ -9,10 +9,10 @@ use Rattle.index.specs.Held.{PowerOfTwo}
 use Rattle.kept.specs.Regions.{Layout, records_region, slots_region, record_words, least_unit, region, Apart}
 use Rattle.kept.specs.Records.{KeptUnit, words_of, record_at, of_table, identities_in, identity_for, row_for, UnitsInside}
 
--- the slots for identities seen, a power of two above the most units that n words hold: a unit takes at least 5 words of the bundle. They are not those of an
--- index, which would be twice as many for most bundles: they are only looked through here
+-- the slots for identities seen, the least power of two above five fourths of the most units that n words hold: a unit takes at least 5 words of the bundle, and a
+-- walk gets long where few slots are free. They are not those of an index, which would be twice as many for the longest bundle: they are only looked through here
 unfoldable pub seen_slots : ℕ → ℕ
-seen_slots n = least_power (n / least_unit + 2)
+seen_slots n = least_power (5 * (n / least_unit) / 4 + 1)
 
 -- each number in the slots is that of one of n records
 pub record Within (slots : List ℕ) (n : ℕ) : Type 0 where

@@ -94,14 +94,15 @@ pub fn slots_for(n: usize) -> usize
     }
 }
 
-// The slots of identities seen, for a bundle of so many words: more than it has units, and two at least. They are cleared before each call and met all over, so
-// that they are as few as suffice.
+// The slots of identities seen, for a bundle of so many words: its units, however many, take fewer than four of five. Fuller ones would make walks long. They are
+// cleared before each call and met all over, so that they are as few as that lets them be.
 #[tactic(auto, unfolding(crate::specs::Slots::seen_slots))]
 pub fn seen_slots(words: usize) -> usize
     requires { words < 2 ^ 31 }
     ensures { result ≡ seen_slots words }
 {
-    index::reading::least_power(words / crate::regions::LEAST_UNIT + 2)
+    let units = words / crate::regions::LEAST_UNIT;
+    index::reading::least_power(5 * units / 4 + 1)
 }
 
 // Seeks an identity in slots of a table.
