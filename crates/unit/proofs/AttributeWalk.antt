@@ -1,13 +1,13 @@
 -- The walk over a root's attributes, at its places in the bundle and in the unit.
-use mathlib.Core.Path.{◌≡◌, refl, sym, ap, ap₂, ◌∙◌}
-use mathlib.Core.Bool.{true}
+use mathlib.Core.Path.{◌≡◌, refl, sym, ap, ap₂, subst, ◌∙◌}
+use mathlib.Core.Bool.{Bool, true}
 use mathlib.Core.List.{List, ◌++◌}
 use mathlib.Core.Option.{some, none}
 use mathlib.Core.Option as math
 use Prim.Native.Nat.{ℕ, ◌+◌, ◌-◌, ◌≤◌}
 use native.Mathlib.Omega.{arith}
-use lib.ListN.{length, take, drop, length-drop}
-use lib.Seq.{drop-drop}
+use lib.ListN.{length, take, drop, length-drop, length-take}
+use lib.Seq.{drop-drop, take-take}
 use Rattle.std.specs.Prelude.{Option, Some, None, Ok}
 use Rattle.std.specs.Option.{is_some}
 use Rattle.octets.specs.Checked.{Check, pass, refuse}
@@ -25,6 +25,10 @@ use Rattle.unit.proofs.Sizes.{rest}
 use Rattle.unit.proofs.Cuts.{between_length, between_drop, between_split}
 use Rattle.unit.proofs.Stepping.{only_step, from_not, from_end, from_on, unread, stepped_within}
 
+-- ---- pairs at the front of what is left, of which the code looks at so many bytes
+pub pairs_pass : (known : Bool) (b : List ℕ) (at n k : ℕ) → n ≤ length (take k (drop at b)) → ((known : Bool) → Quiet known (take n (take k (drop at b)))) → Quiet known (take n (drop at b))
+pairs_pass known b at n k h q = subst (Quiet known) (take-take n k (drop at b) (omega (arith, h, length-take k (drop at b)))) (q known)
+
 -- ---- the walk, as the code takes it
 is_stated : (seen : Option ℕ) → is_some seen ≡ true → seen_is seen ≡ none → ⊥
 is_stated (Some x) h g = some_none g
@@ -33,11 +37,11 @@ is_stated None h g = true_false refl (sym h)
 pub record Walked (e : Encoding) (b s : List ℕ) (place : Span) (w : Walk) : Type 0 where
   pub table : Lies b w.left
   pub unit : w.at ≤ length s
-  pub count : w.count ≤ w.left.at
+  pub paid : w.paid ≤ w.left.at
   pub same : identity_from e (span_bytes b w.left) (drop w.at s) (seen_is w.seen) ≡ identity_from e (span_bytes b place) s none
 
-pub walked_none : (e : Encoding) (b s : List ℕ) (place : Span) → Lies b place → Walked e b s place (record { left = place; at = 0; seen = None; count = 0 })
-walked_none e b s place l = record { table = l; unit = omega arith; count = omega arith; same = refl }
+pub walked_none : (e : Encoding) (b s : List ℕ) (place : Span) → Lies b place → Walked e b s place (record { left = place; at = 0; seen = None; paid = place.at })
+walked_none e b s place l = record { table = l; unit = omega arith; paid = omega arith; same = refl }
 
 module _ (e : Encoding) (b s : List ℕ) (place : Span) (w : Walk) (k : Walked e b s place w) (n : ℕ) (h : n ≤ w.left.end - w.left.at) (q : Quiet (is_some w.seen) (take n (drop w.left.at b))) where
   abbrev seen : math.Option ℕ
@@ -78,12 +82,12 @@ module _ (e : Encoding) (b s : List ℕ) (place : Span) (w : Walk) (k : Walked e
         (omega (arith, taken), omega (arith, taken, l, h, k.table), omega (arith, taken, length-drop w.at s, k.unit))
 
     -- past the step behind the run
-    pub walked_on : (v : Walk) → v.left.at ≡ w.left.at + n + m.taken → v.left.end ≡ w.left.end → v.at ≡ w.at + m.passed → v.count ≡ w.count + 1 → seen_is v.seen ≡ m.seen
+    pub walked_on : (v : Walk) → v.left.at ≡ w.left.at + n + m.taken → v.left.end ≡ w.left.end → v.at ≡ w.at + m.passed → v.paid ≤ w.left.at + n → seen_is v.seen ≡ m.seen
         → Walked e b s place v
     walked_on v a z u c x = record {
       table = (omega (arith, walked_taken, a, z, k.table), omega (arith, z, k.table));
       unit = omega (arith, walked_taken, u);
-      count = omega (arith, walked_taken, a, c, k.count);
+      paid = omega (arith, a, c);
       same =
           ap₂ (λ (i j : ℕ). identity_from e (between b i j) (drop v.at s) (seen_is v.seen)) a z
           ∙ ap₂ (λ (i : ℕ) (y : math.Option ℕ). identity_from e (between b (w.left.at + n + m.taken) w.left.end) (drop i s) y) u x

@@ -1,19 +1,21 @@
 -- Runs of flags that are present: they may be passed at once.
 use mathlib.Core.Path.{◌≡◌, refl, sym, ap, ◌∙◌}
 use mathlib.Core.Logic.{◌⊎◌, inl, inr}
-use mathlib.Core.Bool.{Bool, true, false}
-use mathlib.Core.List.{List, [], ◌++◌, append_assoc}
+use mathlib.Core.Bool.{Bool, true, false, not, beq}
+use mathlib.Core.List.{List, [], ◌∷◌, ◌++◌, append_assoc}
 use mathlib.Core.Option.{Option, some, none}
-use Prim.Native.Nat.{ℕ, ◌+◌, ◌-◌, ◌≤◌}
+use Prim.Native.Nat.{ℕ, suc, ◌+◌, ◌-◌, ◌≤◌, ◌<◌}
 use native.Mathlib.Omega.{arith}
-use lib.ListN.{length, take, drop, length-drop}
-use lib.Seq.{drop-append_seam, length-take-le, take-add}
-use borrow.Author.Tests.{eq-eqb, eqb-true}
+use lib.Dec.{eqb}
+use lib.ListN.{length, take, drop, get_or, length-drop}
+use lib.Seq.{drop-append_seam, drop-cons, length-take-le, take-add}
+use borrow.Author.Tests.{eq-eqb, ne_eqb, eqb-true}
 use Rattle.octets.specs.Lists.{zero_together}
 use Rattle.octets.specs.Checked.{pass}
 use Rattle.octets.proofs.Checks.{pass_inj, bind_pass, require_pass}
 use Rattle.leb128.specs.Leb128.{short}
 use Rattle.leb128.proofs.Local.{taken, local_taken}
+use Rattle.leb128.proofs.Tenth.{short_one}
 use Rattle.unit.proofs.Local.{attribute_local}
 use Rattle.bundle.specs.Encoding.{Encoding}
 use Rattle.unit.specs.Abbreviations.{Attribute, attribute_at}
@@ -21,7 +23,7 @@ use Rattle.unit.specs.Root.{Value, identity_at}
 use Rattle.unit.specs.Roots.{identity_from}
 use Rattle.unit.specs.Runs.{Quiet}
 use Rattle.unit.proofs.Sizes.{rest}
-use Rattle.unit.proofs.Attributes.{attribute_at_taken}
+use Rattle.unit.proofs.Attributes.{attribute_good, attribute_at_taken}
 use Rattle.unit.proofs.Values.{value_flag}
 use Rattle.unit.proofs.Stepping.{identity_seen, identity_other, step_on, from_on}
 
@@ -82,6 +84,29 @@ module _ (known : Bool) where
   quiet_more : (t : List ℕ) (at n : ℕ) → Quiet known (take at t) → Quiet known (take n (drop at t)) → Quiet known (take (at + n) t)
   quiet_more t at n h g = rw (take-add at n t) (quiet_both (take at t) (take n (drop at t)) h g)
 
+-- ---- a name and a form of one byte each
+-- a name of one byte isn't the identity's
+stays_short : (known : Bool) (name : ℕ) → name ≤ 0x7f → Stays known name
+stays_short true name o = inr refl
+stays_short false name o = inl (refl, λ h. omega (arith, h, o))
+
+module _ (name form : ℕ) (f : form ≡ 0x19) (z : name ≡ 0 → ⊥) (o : name ≤ 0x7f) where
+  pair_apart : not (beq (eqb name 0) (eqb form 0)) ≡ false
+  pair_apart = rw (ne_eqb name 0 z, ne_eqb form 0 (λ h. omega (arith, h, f)))
+
+  pair_read : attribute_at (name ∷ form ∷ []) ≡ pass (record { name = name; form = form }, 2)
+  pair_read =
+      attribute_good (name ∷ form ∷ []) name 1 (sym (short_one (name ∷ form ∷ []) name (λ h. omega (arith, h)) refl (omega (arith, o))))
+      form 1 (sym (short_one (form ∷ []) form (λ h. omega (arith, h)) refl (omega (arith, f)))) pair_apart (λ h. omega (arith, h, f))
+
+  pub pair_quiet : (known : Bool) → Quiet known (name ∷ form ∷ [])
+  pair_quiet known = quiet_flag known (name ∷ form ∷ []) name form 2 pair_read f (stays_short known name o)
+
+front_two : (t : List ℕ) (at : ℕ) → at + 1 < length t → take 2 (drop at t) ≡ get_or t at 0 ∷ get_or t (at + 1) 0 ∷ []
+front_two t at h =
+    ap (take 2) (drop-cons t at 0 (omega arith) ∙ ap (λ (x : List ℕ). get_or t at 0 ∷ x) (drop-cons t (suc at) 0 (omega arith)))
+    ∙ ap (λ (k : ℕ). get_or t at 0 ∷ get_or t k 0 ∷ []) (omega arith)
+
 -- ---- the walk over them, as the code takes it
 pub record Running (known : Bool) (t : List ℕ) (at : ℕ) : Type 0 where
   pub within : at ≤ length t
@@ -89,6 +114,10 @@ pub record Running (known : Bool) (t : List ℕ) (at : ℕ) : Type 0 where
 
 pub running_none : (known : Bool) (t : List ℕ) → Running known t 0
 running_none known t = record { within = omega arith; quiet = quiet_none known }
+
+-- past a pair
+pub running_pair : (known : Bool) (t : List ℕ) (at : ℕ) → at + 1 < length t → Quiet known (get_or t at 0 ∷ get_or t (at + 1) 0 ∷ []) → Running known t at → Running known t (at + 2)
+running_pair known t at h q r = record { within = omega (arith, h); quiet = quiet_more known t at 2 r.quiet (rw (front_two t at h) q) }
 
 pub running_on : (known : Bool) (t : List ℕ) (at n : ℕ) → Running known t at →
     (1 ≤ n) × (n ≤ length (take (length t - at) (drop at t))) × Quiet known (take n (take (length t - at) (drop at t))) → (1 ≤ n) × Running known t (at + n)

@@ -12,9 +12,9 @@
 // a short table. A table that has no room even in the memory started anew is judged with all the words for itself: only in a bundle of less than 700 bytes.
 //
 // The directory has runs of attributes too, which the units of a root are to walk once: flags that are present take no bytes of a unit, and a root may have very
-// many of them. Their keys are above those of tables. Runs that lie apart do not fill the directory: a run that is noted takes 128 bytes and more, and seven
-// attributes stand in front of it. Where the directory has no room for one more, its entries are forgotten, tables and runs, but for the last table: its units go
-// on without judging it again.
+// many of them. Their keys are above those of tables. Runs that lie apart do not fill the directory: a run that is noted takes 128 bytes and more, and an
+// attribute stands between two of them. Where the directory has no room for one more, its entries are forgotten, tables and runs, but for the last table: its units
+// go on without judging it again.
 ghost use Rattle.std.specs.Prelude.{◌≡◌, ◌⊎◌, true, List, ℕ, ◌+◌, ◌*◌, ◌/◌, ◌≤◌, ◌<◌, ◌^◌, ◌-◌, length, take, drop, IfSome};
 ghost use Rattle.unit.specs.Trees.{node_words, Fresh};
 ghost use Rattle.unit.specs.Runs.{Quiet};
@@ -52,7 +52,7 @@ const UNKNOWN: u32 = 1;
 const KNOWN: u32 = 2;
 
 // A run of fewer bytes is walked again about as fast as it is found. In a bundle that has one so long the directory has room for a node.
-const WORTH: usize = 128;
+pub const WORTH: usize = 128;
 
 // A part of the bundle. It is another type than strings' `Place`, which has start and size: unit stands beside strings and below what uses both, and a
 // table is read to an end.

@@ -17,7 +17,7 @@ ghost use Rattle.unit.specs.Roots.{
 };
 ghost use Rattle.unit.specs.Runs.{Quiet};
 
-use crate::judged::{Judged, Span};
+use crate::judged::{Judged, Span, WORTH};
 use crate::runs::{DWO_ID, FLAG_PRESENT};
 use crate::tree::{CodeTree, NODE};
 use bundle::encoding::ObjectEncoding;
@@ -34,8 +34,10 @@ const COMPILE_UNIT_TAG: u64 = 0x11;
 
 const TYPE_UNIT_TAG: u64 = 0x41;
 
-// Before each attribute of so many a run of flags is asked for: few enough that a unit is quick at hostile roots, and more than the roots of compilers have.
-const EACH: usize = 8;
+// Attributes of so many bytes that take none of the unit are passed before a run is asked for, seven
+// whose names have two: few enough that a unit is quick at hostile roots, and more than the roots of
+// compilers have.
+const NEAR: usize = 21;
 
 // An attribute's value: its form, where it starts behind an indirect form, and the bytes that it takes.
 #[derive(Clone, Copy)]
@@ -53,14 +55,15 @@ struct Move {
     seen: Option<u64>,
 }
 
-// So far in a root's attributes: where those that are left lie in the bundle, where their values start in the unit, what is stated, and how many were walked
-// one by one.
+// So far in a root's attributes: where those that are left lie in the bundle, where their values
+// start in the unit, what is stated, and where the last attribute stands that takes bytes of the
+// unit, if there is one, or else the first: it pays for those before it.
 #[derive(Clone, Copy)]
 struct Walk {
     left: Span,
     at: usize,
     seen: Option<u64>,
-    count: usize,
+    paid: usize,
 }
 
 // Where a root's attributes start in its table, and their values in the unit.
@@ -158,20 +161,36 @@ fn attribute_step(
     }))
 }
 
-// How many bytes at the front of what is left are passed at once: a run of flags that are present, which take no bytes of the unit. It is asked for before
-// each eighth attribute, and the attribute behind it is none of them. So of eight attributes one at least takes a byte, and a unit takes no more steps than some
-// seventy for each of its bytes, however many attributes its root has: 8 for attributes, and up to 63 for a run that is too short to be noted. Only the units
-// of a table that was judged alone walk each run anew, since the directory's words are that table's; a bundle that has such a table is short.
-#[tactic(auto, using(crate::proofs::Flags::quiet_none))]
+// How many bytes at the front of what is left are passed at once: flags that are present, which take
+// no bytes of the unit. Those whose name has one byte are passed by pairs of bytes. Where they go on
+// for as many as are worth it, or a few attributes have taken no bytes of the unit, the directory is
+// asked for a run. The attribute behind that is none of them. So a unit takes no more steps than some
+// seventy for each of its bytes, and as many pairs, however many attributes its root has: 8 for
+// attributes, and up to 63 for a run that is too short to be noted. Only the units of a table that
+// was judged alone walk each run anew, since the directory's words are that table's; a bundle that
+// has such a table is short.
+#[tactic(auto, using(crate::proofs::AttributeWalk::pairs_pass))]
 fn run_behind(walk: Walk, b: &[u8], codes: &mut [u32], judged: &mut Judged) -> usize
-    requires { Lies b.now walk.left × Lent b.now codes.old judged.old }
+    requires { Lies b.now walk.left × Lent b.now codes.old judged.old × (walk.paid ≤ walk.left.at) }
     ensures run { (result ≤ walk.left.end - walk.left.at) × Quiet (is_some walk.seen) (take result (drop walk.left.at b.now)) }
     ensures memory { Lent b.now codes.new judged.new }
 {
-    if walk.count % EACH < EACH - 1 {
-        return 0;
+    if walk.left.at - walk.paid < NEAR {
+        let near = walk.left.end.min(walk.left.at + WORTH);
+        let pairs = crate::runs::pairs_size(&b[walk.left.at..near]);
+        if pairs < WORTH {
+            return pairs;
+        }
     }
     judged.pass_run(b, walk.left, walk.seen.is_some(), codes)
+}
+
+// Where the last attribute stands that takes bytes of the unit, past one that stands at start.
+fn paid_at(walk: Walk, start: usize, passed: usize) -> usize
+    requires { walk.paid ≤ start }
+    ensures { result ≤ start }
+{
+    if passed == 0 { walk.paid } else { start }
 }
 
 // The identity that the attributes at a place of the bundle state, whose values stand at the front of s. A loop, since each attribute says where the next
@@ -192,7 +211,7 @@ fn identity_in(
         left: place,
         at: 0,
         seen: None,
-        count: 0,
+        paid: place.at,
     };
     loop {
         let run = run_behind(walk, b, codes, judged);
@@ -208,7 +227,7 @@ fn identity_in(
             },
             at: walk.at + step.passed,
             seen: step.seen,
-            count: walk.count + 1,
+            paid: paid_at(walk, start, step.passed),
         };
     }
 }

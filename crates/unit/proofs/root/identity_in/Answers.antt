@@ -60,6 +60,6 @@ pub loop-step-preserved : goal.loop-step-preserved
 unfolding mapped
 loop-step-preserved c = (
   walked_on _ _ _ _ _ c.loop-step.invariant.0 _ c.run_behind-run.ensures.run.0 c.run_behind-run.ensures.run.1 _
-      (sym (ap (λ (m : Option Move). pass (moved_is m)) c.in-Some.is) ∙ c.in_ok-step.ensures) _ refl refl refl refl refl,
+      (sym (ap (λ (m : Option Move). pass (moved_is m)) c.in-Some.is) ∙ c.in_ok-step.ensures) _ refl refl refl c.paid_at.ensures refl,
   c.run_behind-run.ensures.memory,
 )
