@@ -6,21 +6,24 @@ use Prim.Native.Nat.{ℕ, ◌+◌, ◌-◌, ◌*◌, ◌/◌, ◌^◌, ◌<◌, 
 use native.Mathlib.Omega.{arith}
 use native.Mathlib.Decide.{dec_le}
 use lib.ListN.{length, take, drop, get_or, length-append, length-drop, get_or-append}
-use lib.Seq.{take_at, length-take-le, get_or-drop, get_or-append-add, get_or-append_seam}
-use borrow.Rule.Slice.PartMut.{put_mid, mid_of, mid_len}
+use lib.Seq.{take_at, length-take-le, get_or-take, get_or-drop, get_or-append-add, get_or-append_seam}
+use borrow.Rule.Slice.PartMut.{put_mid, mid_of, mid_len, same_len_mid}
 use Rattle.std.specs.Prelude.{Some}
+use Rattle.std.specs.List.{CopiedTo}
 use Rattle.octets.specs.Octets.{placed}
 use Rattle.octets.proofs.Checks.{true_false}
 use Rattle.octets.proofs.Placed.{length_placed, take_placed}
 use Rattle.octets.proofs.Regions.{placed_whole, get_d_placed, get_d_before, get_d_behind}
 use Rattle.unit.specs.Trees.{carried_at, Tree, Fresh, Grown, Added}
-use Rattle.unit.specs.TableTrees.{TableHeld, span_bytes, Held, directory_size, directory, table_from, Stored, run_key, Noted, Entries, Lies, Enters, Enterable, Knows, Lent}
+use Rattle.unit.specs.TableTrees.{Judging, TableHeld, between, span_bytes, Held, directory_size, directory, table_from, Stored, run_key, Noted, Entries, Lies, Enters, Enterable, Remembers, Knows, Begun, Lent}
 use Rattle.unit.specs.declared.judged.Span.{Span}
 use Rattle.unit.specs.declared.judged.JudgedTable.{JudgedTable}
 use Rattle.unit.specs.declared.judged.Judged.{Judged}
-use Rattle.unit.proofs.Recalling.{recalled}
+use Rattle.unit.specs.declared.abbreviations.Extent.{Extent}
+use Rattle.unit.proofs.Recalling.{recalled, own, Owned}
+use Rattle.unit.proofs.Judging.{judging_room}
 use Rattle.unit.proofs.Finding.{held_rising}
-use Rattle.unit.proofs.Holding.{held_kept, held_in, noted_kept, entries_rising, entries_kept, remembers_entries}
+use Rattle.unit.proofs.Holding.{held_kept, held_in, judging_same, noted_kept, entries_rising, entries_kept, remembers_entries}
 
 -- ---- a table that was judged into the words from a place on
 module _ (b w x : List ℕ) (from n : ℕ) (l : length x ≡ n) (h : from + n ≤ length w) where
@@ -33,6 +36,9 @@ module _ (b w x : List ℕ) (from n : ℕ) (l : length x ≡ n) (h : from + n �
   left_held : (p : Span) (count : ℕ) → Lies b p → TableHeld (span_bytes b p) x count → Held b left (record { place = p; from = from; count = count })
   left_held p count o t =
       rw left_is (held_in b (placed w from x) x p from count o t (omega (arith, length_placed w from x (omega arith))) (λ q g. get_d_placed w from x q g (omega arith)))
+
+  left_at : (q : ℕ) → q < n → get_or left (from + q) 0 ≡ get_or x q 0
+  left_at q g = ap (λ (v : List ℕ). get_or v (from + q) 0) left_is ∙ get_d_placed w from x q (omega arith) (omega arith)
 
   left_front : (m : ℕ) → m ≤ from → take m left ≡ take m w
   left_front m g = rw left_is (take_placed w from x m g (omega arith))
@@ -217,3 +223,42 @@ module _ (b w x : List ℕ) (j : Judged) (start : ℕ) (p : Span) (count : ℕ) 
       let r : 5 * count ≤ length x = (held_rising (span_bytes b p) x count t).room in
       let small = m.small in
       (o.0, omega arith, omega (arith, x_length), omega arith, refl, s.1, new.inside, s.2, entries_rising b (put_mid (start + 2) n w x) j.entries j.free others)
+
+-- ---- what was judged of it by then, moved to the front: v is what the words are left as
+module _ (b w x v : List ℕ) (from : ℕ) (p : Span) (g : Extent) (room : length b ≤ length w) (h : from ≤ length b) (d : length b / 25 ≤ from)
+    (lx : length x ≡ length (mid_of from (length b - from) w)) (j : Judging (span_bytes b p) x g.size g.count) (lv : length v ≡ length (put_mid from (length b - from) w x))
+    (c : CopiedTo (put_mid from (length b - from) w x) v from (length b / 25) (from + 5 * g.count - from)) where
+  abbrev rest : ℕ
+  rest = length b - from
+
+  rest_length : length x ≡ rest
+  rest_length = lx ∙ mid_len from (length b) w room
+
+  moved_room : length b ≤ length v
+  moved_room = omega (arith, lv, same_len_mid from rest w x lx)
+
+  nodes : 5 * g.count ≤ rest
+  nodes = omega (arith, judging_room (span_bytes b p) x g.size g.count j, rest_length)
+
+  moved_at : (q : ℕ) → q < 5 * g.count → get_or (between v (length b / 25) (length b)) q 0 ≡ get_or x q 0
+  moved_at q l =
+      let i : from + (length b / 25 + q - length b / 25) ≡ from + q = omega arith in
+      get_or-take (length b - length b / 25) (drop (length b / 25) v) q 0 (omega (arith, nodes)) ∙ get_or-drop (length b / 25) v q 0
+      ∙ c (length b / 25 + q) 0 (omega arith) (omega arith) ∙ ap (λ (k : ℕ). get_or (put_mid from rest w x) k 0) i
+      ∙ left_at b w x from rest rest_length (omega (arith, room)) q (omega (arith, nodes))
+
+  pub moved_begun : Begun b v p g
+  moved_begun = judging_same (span_bytes b p) x (between v (length b / 25) (length b)) g.size g.count j (omega (arith, nodes, mid_len (length b / 25) (length b) v moved_room)) moved_at
+
+-- ---- alone behind the directory: x is what the words there are left as
+pub front_knows : (b w x : List ℕ) (p : Span) (e : Extent) (j : Judged) → length b ≤ length w → length x ≡ length (mid_of (length b / 25) (length b - length b / 25) w)
+    → Owned b x p e → ((b w : List ℕ) → Remembers b w j)
+    → Knows b (put_mid (length b / 25) (length b - length b / 25) w x) p
+    (record { last = Some (record { place = own p e; from = length b / 25; count = e.count }); entries = j.entries; free = j.free })
+    (record { place = own p e; from = length b / 25; count = e.count })
+front_knows b w x p e j room lx o m =
+    let from = length b / 25 in
+    let n = length b - length b / 25 in
+    recalled b (put_mid from n w x) p _ j.entries j.free refl o.ends
+    (left_held b w x from n (lx ∙ mid_len from (length b) w room) (omega arith) (own p e) e.count o.lies o.held)
+    (remembers_entries b (put_mid from n w x) j (m _ _))

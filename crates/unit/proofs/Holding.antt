@@ -1,13 +1,14 @@
 -- Tables that lent words hold: what stores elsewhere leave of them.
 use mathlib.Core.Path.{◌≡◌, refl, sym, subst, ap, ap₂, ◌∙◌}
-use mathlib.Core.List.{List, []}
+use mathlib.Core.List.{List, [], ◌++◌}
 use Prim.Native.Nat.{ℕ, ◌+◌, ◌*◌, ◌^◌, ◌<◌, ◌≤◌}
 use native.Mathlib.Omega.{arith}
 use lib.ListN.{length, take, get_or, length-map, length-take}
 use Rattle.octets.specs.Octets.{part}
 use Rattle.octets.proofs.Parts.{length_part, get_d_part}
+use Rattle.unit.specs.Abbreviations.{Declaration}
 use Rattle.unit.specs.Trees.{code_at, carried_at, Rising, Linked, Tree}
-use Rattle.unit.specs.TableTrees.{codes_of, no_declaration, Declares, TableHeld, span_bytes, Held, directory_size, directory, table_from, Stored, Noted, Entries, Lies, Remembers, Lent}
+use Rattle.unit.specs.TableTrees.{codes_of, no_declaration, Declares, TableTree, Judging, TableHeld, span_bytes, Held, directory_size, directory, table_from, Stored, Noted, Entries, Lies, Remembers, Lent}
 use Rattle.unit.specs.declared.judged.Span.{Span}
 use Rattle.unit.specs.declared.judged.JudgedTable.{JudgedTable}
 use Rattle.unit.specs.declared.judged.Judged.{Judged}
@@ -31,20 +32,34 @@ tree_same w v cs t room same = record {
       record { steps = r.steps; is = reaches_linked w v (length cs) t.rising linked r.steps (get_or cs k 0) 0 k (omega arith) r.is };
 }
 
-held_same : (s w v : List ℕ) (n : ℕ) → TableHeld s w n → 5 * n ≤ length v → ((q : ℕ) → q < 5 * n → get_or v q 0 ≡ get_or w q 0) → TableHeld s v n
+table_same : (s w v : List ℕ) (ds : List Declaration) → TableTree s w ds → 5 * length ds ≤ length v → ((q : ℕ) → q < 5 * length ds → get_or v q 0 ≡ get_or w q 0) → TableTree s v ds
 unfolding carried_at
+table_same s w v ds t room same = record {
+  tree = tree_same w v (codes_of ds) t.tree (omega (arith, count)) (λ q l. same q (omega (arith, count)));
+  declares = λ k l. subst (λ (x : ℕ). Declares s x (get_or ds k no_declaration)) (sym (same (5 * k + 2) (omega arith))) (t.declares k l);
+}
+  where
+    count : length (codes_of ds) ≡ length ds
+    count = length-map ds (λ d. d.code)
+
+held_same : (s w v : List ℕ) (n : ℕ) → TableHeld s w n → 5 * n ≤ length v → ((q : ℕ) → q < 5 * n → get_or v q 0 ≡ get_or w q 0) → TableHeld s v n
 held_same s w v n t room same = record {
   declared = t.declared;
   read = t.read;
   counted = t.counted;
-  held = record {
-    tree = tree_same w v (codes_of t.declared) t.held.tree (omega (arith, count)) (λ q l. same q (omega (arith, count)));
-    declares = λ k l. subst (λ (x : ℕ). Declares s x (get_or t.declared k no_declaration)) (sym (same (5 * k + 2) (omega (arith, t.counted)))) (t.held.declares k l);
-  };
+  held = table_same s w v t.declared t.held (omega (arith, t.counted)) (λ q l. same q (omega (arith, t.counted)));
 }
-  where
-    count : length (codes_of t.declared) ≡ n
-    count = length-map t.declared (λ d. d.code) ∙ t.counted
+
+pub judging_same : (s w v : List ℕ) (at n : ℕ) → Judging s w at n → 5 * n ≤ length v → ((q : ℕ) → q < 5 * n → get_or v q 0 ≡ get_or w q 0) → Judging s v at n
+judging_same s w v at n j room same = record {
+  ds = j.ds;
+  met = j.met;
+  counted = j.counted;
+  differ = j.differ;
+  held = λ y. table_same (take at s ++ y) w v j.ds (j.held y) (omega (arith, j.counted)) (λ q l. same q (omega (arith, j.counted)));
+  within = j.within;
+  room = j.room;
+}
 
 -- ---- a table among the words
 pub held_kept : (b w v : List ℕ) (t : JudgedTable) → length v ≡ length w → ((i : ℕ) → t.from ≤ i → i < t.from + 5 * t.count → get_or v i 0 ≡ get_or w i 0) → Held b w t → Held b v t

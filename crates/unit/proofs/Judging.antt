@@ -17,7 +17,7 @@ use Rattle.octets.proofs.Elements.{distinct_snoc, distinct_repeats}
 use Rattle.unit.specs.Abbreviations.{Declaration, attributes_of, declarations_of}
 use Rattle.unit.specs.Tables.{Coded, declared_at, declarations, passed, table_good}
 use Rattle.unit.specs.Trees.{carried_at, Rising, Tree, Grown, Added}
-use Rattle.unit.specs.TableTrees.{codes_of, no_declaration, Declares, TableTree, Judges}
+use Rattle.unit.specs.TableTrees.{codes_of, no_declaration, Declares, TableTree, Met, Judging, Judges}
 use Rattle.unit.specs.declared.abbreviations.Unheld.TheVariants.{Bad}
 use Rattle.leb128.specs.Leb128.{unsigned}
 use Rattle.unit.proofs.Sizes.{unsigned_within}
@@ -25,9 +25,6 @@ use Rattle.unit.proofs.Walks.{declared, before, table_end, table_more, table_not
 use Rattle.unit.proofs.Local.{ended, ended_front, front_is, front_read, front_more, table_local}
 
 -- ---- the declarations of the bytes p, whatever stands behind them
-pub record Met (p : List ℕ) (ds : List Declaration) : Type 0 where
-  pub is : (y : List ℕ) → declarations (p ++ y) ≡ (declarations y >>= λ es. pass (ds ++ es))
-
 met_none : Met [] []
 unfolding ◌>>=◌
 met_none = record { is = λ y. go (declarations y) }
@@ -123,15 +120,6 @@ held_more s w v ds at d t g e = record {
 }
 
 -- ---- the walk over a table: its front is read, whatever stands behind
-pub record Judging (s w : List ℕ) (at count : ℕ) : Type 0 where
-  pub ds : List Declaration
-  pub met : Met (take at s) ds
-  pub counted : length ds ≡ count
-  pub differ : distinct (codes_of ds) ≡ true
-  pub held : (y : List ℕ) → TableTree (take at s ++ y) w ds
-  pub within : at ≤ length s
-  pub room : 5 * count ≤ at
-
 pub judging_start : (s w : List ℕ) → Judging s w 0 0
 unfolding distinct
 judging_start s w = record {
@@ -151,6 +139,9 @@ module _ (s w : List ℕ) (at count : ℕ) (j : Judging s w at count) where
 
   pub judging_rising : Rising w count
   judging_rising = rw (← codes_count) (j.held []).tree.rising
+
+  pub judging_room : 5 * count ≤ length w
+  judging_room = judging_rising.room
 
   front_length : length (take at s) ≡ at
   front_length = length-take-le at s j.within

@@ -10,7 +10,7 @@ use Rattle.octets.specs.Lists.{has, any}
 use Rattle.octets.proofs.Parts.{part_cut}
 use Rattle.unit.specs.Tables.{table_good}
 use Rattle.unit.specs.Trees.{Rising, Sought, Seeks, Fresh}
-use Rattle.unit.specs.TableTrees.{TableHeld, Judges, span_bytes, Held, directory, between, table_from, Stored, Noted, Entries, Remembers, Knows, KnownAt, Joins, Lies, Lent}
+use Rattle.unit.specs.TableTrees.{TableHeld, Judges, span_bytes, Held, directory, between, table_from, Stored, Noted, Entries, Remembers, Knows, KnownAt, Lies, Lent}
 use Rattle.unit.specs.declared.judged.Span.{Span}
 use Rattle.unit.specs.declared.judged.JudgedTable.{JudgedTable}
 use Rattle.unit.specs.declared.judged.Judged.{Judged}
@@ -119,15 +119,7 @@ judged_own b w p r x o g i =
           (judged_held _ w r g x i);
     }
 
--- ---- a table that is not held
-pub joined_not : (b w : List ℕ) (p : Span) (j : Judged) (r : Result JudgedTable Unheld) (u : Unheld) → Joins b w p j r → r ≡ Err u
-    → (j.entries ≡ 0) × Remembers b w j × (u ≡ Bad → table_good (span_bytes b p) ≡ false)
-joined_not b w p j r u k e = let h : Joins b w p j (Err u) = rw e at k in h
-
-pub full_bad : Full ≡ Bad → ⊥
-full_bad e = cc
-
--- a directory of no entries
+-- ---- a directory of no entries
 pub fresh_none : (w : List ℕ) (n at : ℕ) → n ≡ 0 → Fresh w n at
 unfolding Fresh has any
 fresh_none w n at e [] l t = refl

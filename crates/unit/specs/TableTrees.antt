@@ -1,11 +1,12 @@
 -- A table that was judged: its declarations in a tree of their codes, whose nodes carry where in the table they stand. What was judged is remembered.
 -- These relations say what the code keeps: no definition of reading units rests on them.
-use Rattle.std.specs.Prelude.{Option, Some, None, Result, Ok, Err, IfSome, ◌≡◌, Bool, true, false, List, [], map, ℕ, ◌+◌, ◌-◌, ◌*◌, ◌/◌, ◌^◌, ◌<◌, ◌≤◌, length, take, drop, slice_index, slice_index_or, if◌then◌else◌}
+use Rattle.std.specs.Prelude.{Option, Some, None, Result, Ok, Err, IfSome, ◌≡◌, Bool, true, false, List, [], ◌++◌, map, ℕ, ◌+◌, ◌-◌, ◌*◌, ◌/◌, ◌^◌, ◌<◌, ◌≤◌, length, take, drop, slice_index, slice_index_or, if◌then◌else◌}
 use Rattle.std.proofs.Math.Option.{some}
 use Rattle.octets.specs.Octets.{part}
-use Rattle.octets.specs.Checked.{pass}
+use Rattle.octets.specs.Lists.{distinct}
+use Rattle.octets.specs.Checked.{pass, ◌>>=◌}
 use Rattle.unit.specs.Abbreviations.{Declaration, attributes_of, declarations_of}
-use Rattle.unit.specs.Tables.{Coded, declared_at, table_good}
+use Rattle.unit.specs.Tables.{Coded, declared_at, declarations, table_good}
 use Rattle.unit.specs.Runs.{Quiet}
 use Rattle.unit.specs.Trees.{node_words, carried_at, Rising, Tree, Fresh}
 use Rattle.unit.specs.declared.judged.Span.{Span}
@@ -44,6 +45,21 @@ pub record TableHeld (s w : List ℕ) (count : ℕ) : Type 0 where
   pub read : declarations_of s ≡ pass declared
   pub counted : length declared ≡ count
   pub held : TableTree s w declared
+
+-- the declarations of the bytes p, whatever stands behind them
+pub record Met (p : List ℕ) (ds : List Declaration) : Type 0 where
+  pub is : (y : List ℕ) → declarations (p ++ y) ≡ (declarations y >>= λ es. pass (ds ++ es))
+
+-- the table s is read up to a place, and the words w hold the declarations in front of it, which
+-- are so many
+pub record Judging (s w : List ℕ) (at count : ℕ) : Type 0 where
+  pub ds : List Declaration
+  pub met : Met (take at s) ds
+  pub counted : length ds ≡ count
+  pub differ : distinct (codes_of ds) ≡ true
+  pub held : (y : List ℕ) → TableTree (take at s ++ y) w ds
+  pub within : at ≤ length s
+  pub room : node_words * count ≤ at
 
 -- judged into the words w: the table's own bytes are held, whatever stands behind them. The words do not suffice only where they are fewer than the bytes
 unfoldable pub Judges : List ℕ → List ℕ → Result Extent Unheld → Type 0
@@ -121,6 +137,13 @@ pub record Enters (b w : List ℕ) (size start : ℕ) (t : JudgedTable) (j : Jud
   pub entries : Entries b w j.entries j.free
   pub held : Held b w t
 
+-- among n words a table more may start at one: its first two words have room there, and the
+-- directory has room for a node
+abbrev pub Free : ℕ → Judged → ℕ → Type 0
+Free n j start =
+    (start + head_words ≤ n) × (j.free ≤ start) × (n / directory_share ≤ start)
+    × (node_words * j.entries + node_words ≤ n / directory_share)
+
 -- its numbers fit into words, and the words suffice: the directory's for one node more, the others for what stands in front of the tree, and the tree
 abbrev pub Enterable : List ℕ → ℕ → ℕ → JudgedTable → Judged → Type 0
 Enterable w size start t j =
@@ -138,6 +161,11 @@ pub record Notes (b w : List ℕ) (size run key : ℕ) (j : Judged) : Type 0 whe
 -- its number fits into a word, the words have the directory, and the bundle has the run
 abbrev pub Notable : List ℕ → ℕ → ℕ → Judged → Type 0
 Notable w size run j = (run < 2 ^ 32) × (size < 2 ^ 32) × (size ≤ length w) × (run / directory_share ≤ size) × Rising (take size w) j.entries
+
+-- what is judged already of the table at the front of a part stands in the words behind the
+-- directory
+abbrev pub Begun : List ℕ → List ℕ → Span → Extent → Type 0
+Begun b w p g = Judging (span_bytes b p) (between w (directory_size b) (length b)) g.size g.count
 
 -- t is the table at the front of a part, and the last one of the memory
 pub record Knows (b w : List ℕ) (p : Span) (j : Judged) (t : JudgedTable) : Type 0 where

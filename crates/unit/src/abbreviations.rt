@@ -1,11 +1,11 @@
 // The abbreviation table at the front of lent bytes, read to its zero code. Every fault gives 12.
-ghost use Rattle.std.specs.Prelude.{◌≡◌, true, List, ℕ, ◌≤◌, ◌<◌, ◌^◌, length};
+ghost use Rattle.std.specs.Prelude.{◌≡◌, true, Err, List, ℕ, ◌≤◌, ◌<◌, ◌^◌, length};
 ghost use Rattle.octets.specs.Checked.{pass, mapped};
 ghost use Rattle.numbers.specs.Refused.{told};
 ghost use Rattle.numbers.specs.declared.refusals.Refusal.TheVariants.{NoIdentity};
 ghost use Rattle.leb128.specs.Leb128.{unsigned};
 ghost use Rattle.unit.specs.Abbreviations.{attribute_at};
-ghost use Rattle.unit.specs.declared.abbreviations.Unheld.TheVariants.{Bad};
+ghost use Rattle.unit.specs.declared.abbreviations.Unheld.TheVariants.{Bad, Full};
 ghost use Rattle.unit.specs.Tables.{
   attribute_is,
   attributes_size,
@@ -16,7 +16,7 @@ ghost use Rattle.unit.specs.Tables.{
   Headed,
   Finds,
 };
-ghost use Rattle.unit.specs.TableTrees.{TableHeld, Judges};
+ghost use Rattle.unit.specs.TableTrees.{TableHeld, Judging, Judges};
 
 use crate::tree::{CodeTree, NODE};
 use numbers::refusals::Refusal;
@@ -184,22 +184,25 @@ fn code_size(s: &[u8]) -> usize
     }
 }
 
-// Judges the table at the front of s, which is good where a zero code ends it and no code repeats. It answers how many declarations the table has and how
-// many bytes it takes, and then codes hold where each of them stands. A word for each byte suffices: a declaration takes at least five bytes, and a node five
-// words. The bytes are read once, but for the code that ends them, and each declaration takes one walk in the tree.
-// A loop, since each declaration says where the next starts: the `next` of an iterator of our own would hold the same step, with laws of its own.
-pub fn judge_table(s: &[u8], codes: &mut [u32]) -> Result<Extent, Unheld>
-    requires { length s.now < 2 ^ 32 }
-    ensures { Judges s.now codes.new result }
+// Goes on judging the table at the front of s from where its reading stands: codes hold where each
+// of the declarations read so far stands, which begun counts with their bytes. Where the words do
+// not suffice, begun says how far the reading came, so that it can go on in more words.
+// A loop, since each declaration says where the next starts: the `next` of an iterator of our own
+// would hold the same step, with laws of its own.
+pub fn judge_on(s: &[u8], codes: &mut [u32], begun: &mut Extent) -> Result<Extent, Unheld>
+    requires { (length s.now < 2 ^ 32) × Judging s.now codes.old begun.old.size begun.old.count }
+    ensures table { Judges s.now codes.new result }
+    ensures begun { result ≡ Err Full → Judging s.now codes.new begun.new.size begun.new.count }
 {
-    let mut at = 0;
-    let mut count = 0;
+    let mut at = begun.size;
+    let mut count = begun.count;
     loop {
         let Some(declaration) = declared_at(&s[at..])? else {
             let size = at + code_size(&s[at..]);
             return Ok(Extent { count, size });
         };
         if codes.len() < NODE * count + NODE {
+            *begun = Extent { count, size: at };
             return Err(Unheld::Full);
         }
         if !crate::tree::add_code(codes, count, at, declaration.code) {
@@ -208,6 +211,18 @@ pub fn judge_table(s: &[u8], codes: &mut [u32]) -> Result<Extent, Unheld>
         at += declaration.place.end;
         count += 1;
     }
+}
+
+// Judges the table at the front of s, which is good where a zero code ends it and no code repeats. It answers how many declarations the table has and how
+// many bytes it takes, and then codes hold where each of them stands. A word for each byte suffices: a declaration takes at least five bytes, and a node five
+// words. The bytes are read once, but for the code that ends them, and each declaration takes one walk in the tree.
+#[tactic(auto, using(crate::proofs::Judging::judging_start))]
+pub fn judge_table(s: &[u8], codes: &mut [u32]) -> Result<Extent, Unheld>
+    requires { length s.now < 2 ^ 32 }
+    ensures { Judges s.now codes.new result }
+{
+    let mut begun = Extent { count: 0, size: 0 };
+    judge_on(s, codes, &mut begun)
 }
 
 // The tag of the declaration at the front of s, and where its attributes start behind the children byte. They were read as the table was judged,

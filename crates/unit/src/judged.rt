@@ -5,17 +5,26 @@
 // five words. Behind it each table has two words and then the tree of its declarations. The words say how many those are, which is where the tree ends, and how
 // many bytes the table takes, so that a part that ends before its table does is told apart without a reading.
 //
-// Where the directory is full, or the words behind it are, all is forgotten and the table at hand is judged as the first of a memory started anew. The directory
-// has a node for each 125 bytes of the bundle, and a unit takes at least 20: tables are forgotten for it at most six times, and each is judged once more then.
-// The words behind it suffice wherever long tables lie apart: all but 127 declarations of a table take at least six bytes, and five words. Short tables that
-// lie apart may fill them, but a table that has a root takes more bytes than words: their units have less than a twenty-fifth of the bundle then, and each judges
-// a short table. A table that has no room even in the memory started anew is judged with all the words for itself: only in a bundle of less than 700 bytes.
+// Where the directory is full, or the words behind it are, all is forgotten, and the table at hand
+// has the words behind the directory for itself: its reading goes on there, so that each table that
+// is judged is read once. It is the last one, and the next new table is put over it. The directory
+// does not have it: there would be room for one table less, and of tables that have hardly room
+// together each would be forgotten the sooner.
+//
+// The directory has a node for each 125 bytes of the bundle, and a unit takes at least 20: tables
+// are forgotten for it at most six times, and each is judged once more then, and the one at hand
+// twice. The words behind it suffice wherever long tables lie apart: all but 127 declarations of a
+// table take at least six bytes, and five words. Short tables that lie apart may fill them, but a
+// table that has a root takes more bytes than words: their units have less than a twenty-fifth of
+// the bundle then, and each judges a short table. A table that has no room even in all the words
+// behind the directory is judged anew, with all the words for itself: only in a bundle of less than
+// 700 bytes.
 //
 // The directory has runs of attributes too, which the units of a root are to walk once: flags that are present take no bytes of a unit, and a root may have very
 // many of them. Their keys are above those of tables. Runs that lie apart do not fill the directory: a run that is noted takes 128 bytes and more, and an
 // attribute stands between two of them. Where the directory has no room for one more, its entries are forgotten, tables and runs, but for the last table: its units
 // go on without judging it again.
-ghost use Rattle.std.specs.Prelude.{◌≡◌, ◌⊎◌, true, List, ℕ, ◌+◌, ◌*◌, ◌/◌, ◌≤◌, ◌<◌, ◌^◌, ◌-◌, length, take, drop, IfSome};
+ghost use Rattle.std.specs.Prelude.{◌≡◌, ◌⊎◌, true, List, ℕ, ◌+◌, ◌*◌, ◌/◌, ◌≤◌, ◌<◌, ◌^◌, ◌-◌, length, take, drop, IfSome, Err};
 ghost use Rattle.unit.specs.Trees.{node_words, Fresh};
 ghost use Rattle.unit.specs.Runs.{Quiet};
 ghost use Rattle.unit.specs.TableTrees.{
@@ -34,9 +43,12 @@ ghost use Rattle.unit.specs.TableTrees.{
   run_key,
   Notable,
   Notes,
+  Free,
+  Begun,
 };
+ghost use Rattle.unit.specs.declared.abbreviations.Unheld.TheVariants.{Full};
 
-use crate::abbreviations::Unheld;
+use crate::abbreviations::{Extent, Unheld};
 use crate::tree::{CodeTree, NODE};
 use numbers::refusals::Refusal;
 
@@ -104,7 +116,7 @@ impl Judged {
     // The word where a new table starts, among n: behind the directory and its tables. None where the directory is full, or too few words are left.
     fn start(self, n: usize) -> Option<usize>
         requires { node_words * self.entries ≤ n / directory_share }
-        ensures { IfSome result (λ start. (start + head_words ≤ n) × (self.free ≤ start) × (n / directory_share ≤ start) × (node_words * self.entries + node_words ≤ n / directory_share)) }
+        ensures { IfSome result (Free n self) }
     {
         let size = n / SHARE;
         let start = self.free.max(size);
@@ -154,25 +166,28 @@ impl Judged {
         Ok(table)
     }
 
-    // A table that was not judged before: its tree stands behind those of the others. Where it is not held, since it is bad, the directory is full or the words
-    // that are left do not suffice, all is forgotten: the last table, if it was judged alone, may have stood where words are written over now.
-    #[tactic(auto, using(crate::proofs::Holding::entries_room, crate::proofs::Holding::remembers_entries, crate::proofs::Recalling::judged_within, crate::proofs::Cuts::between_length))]
+    // A table that was not judged before: its tree stands behind those of the others, and the words
+    // in front of it from start on. Where it is not held, since it is bad or the words that are
+    // left do not suffice, all is forgotten: the last table, if it was judged alone, may have stood
+    // where words are written over now. What was judged of the table until the words were full is
+    // moved to the front of those behind the directory, and begun says how much that is.
+    #[tactic(auto, using(crate::proofs::Holding::entries_room, crate::proofs::Holding::remembers_entries, crate::proofs::Recalling::judged_within, crate::proofs::Cuts::between_length, crate::proofs::Judging::judging_start, crate::proofs::Judging::judging_room))]
     fn judge_behind(
         &mut self,
         b: &[u8],
         place: Span,
         codes: &mut [u32],
+        start: usize,
+        begun: &mut Extent,
     ) -> Result<JudgedTable, Unheld>
-        requires { Lies b.now place × Lent b.now codes.old self.old × Fresh (directory b.now codes.old) self.old.entries place.at }
-        ensures { Joins b.now codes.new place self.new result }
+        requires new { Lies b.now place × Lent b.now codes.old self.old × Fresh (directory b.now codes.old) self.old.entries place.at × Free (length b.now) self.old start }
+        requires none { (begun.old.size ≡ 0) × (begun.old.count ≡ 0) }
+        ensures table { Joins b.now codes.new place self.new result }
+        ensures begun { result ≡ Err Full → Begun b.now codes.new place begun.new }
     {
         let n = b.len();
-        let Some(start) = self.start(n) else {
-            *self = Judged::nothing();
-            return Err(Unheld::Full);
-        };
         let from = start + HEAD;
-        match crate::abbreviations::judge_table(&b[place.at..place.end], &mut codes[from..n]) {
+        match crate::abbreviations::judge_on(&b[place.at..place.end], &mut codes[from..n], begun) {
             Ok(extent) => {
                 let table = JudgedTable {
                     place: Span {
@@ -185,15 +200,55 @@ impl Judged {
                 self.enter(codes, n / SHARE, start, table);
                 Ok(table)
             }
-            Err(unheld) => {
+            Err(Unheld::Full) => {
                 *self = Judged::nothing();
-                Err(unheld)
+                codes.copy_within(from..from + NODE * begun.count, n / SHARE);
+                Err(Unheld::Full)
+            }
+            Err(Unheld::Bad) => {
+                *self = Judged::nothing();
+                Err(Unheld::Bad)
             }
         }
     }
 
-    // The same, and once more in the memory started anew where it was full.
-    fn judge_again(
+    // A table that was begun at the front of the words behind the directory, which has them for
+    // itself: the others are forgotten, and the next new table is put over it.
+    #[tactic(auto, using(crate::proofs::Recalling::judged_within, crate::proofs::Cuts::between_length))]
+    fn judge_front(
+        &mut self,
+        b: &[u8],
+        place: Span,
+        codes: &mut [u32],
+        begun: &mut Extent,
+    ) -> Result<JudgedTable, Unheld>
+        requires { Lies b.now place × (length b.now ≤ length codes.old) × (length b.now < 2 ^ 32) × Begun b.now codes.old place begun.old }
+        ensures { Joins b.now codes.new place self.new result }
+    {
+        *self = Judged::nothing();
+        let front = b.len() / SHARE;
+        let bytes = &b[place.at..place.end];
+        match crate::abbreviations::judge_on(bytes, &mut codes[front..b.len()], begun) {
+            Ok(extent) => {
+                let table = JudgedTable {
+                    place: Span {
+                        at: place.at,
+                        end: place.at + extent.size,
+                    },
+                    from: front,
+                    count: extent.count,
+                };
+                self.last = Some(table);
+                Ok(table)
+            }
+            Err(unheld) => Err(unheld),
+        }
+    }
+
+    // A table that was not judged before, read once: behind the others, and where they leave it no
+    // room the reading goes on without them.
+    #[tactic(auto, using(crate::proofs::Holding::entries_room, crate::proofs::Holding::remembers_entries))]
+    fn judge_once(
         &mut self,
         b: &[u8],
         place: Span,
@@ -202,13 +257,18 @@ impl Judged {
         requires { Lies b.now place × Lent b.now codes.old self.old × Fresh (directory b.now codes.old) self.old.entries place.at }
         ensures { Joins b.now codes.new place self.new result }
     {
-        match self.judge_behind(b, place, codes) {
-            Err(Unheld::Full) => self.judge_behind(b, place, codes),
+        let mut begun = Extent { count: 0, size: 0 };
+        let Some(start) = self.start(b.len()) else {
+            return self.judge_front(b, place, codes, &mut begun);
+        };
+        match self.judge_behind(b, place, codes, start, &mut begun) {
+            Err(Unheld::Full) => self.judge_front(b, place, codes, &mut begun),
             answer => answer,
         }
     }
 
-    // The same, and with all the words for itself where these do not suffice either: the table takes most of a bundle of few bytes.
+    // The same, and with all the words for itself where those behind the directory do not suffice:
+    // the table takes most of a bundle of few bytes.
     fn judge_new(
         &mut self,
         b: &[u8],
@@ -218,7 +278,7 @@ impl Judged {
         requires { Lies b.now place × Lent b.now codes.old self.old × Fresh (directory b.now codes.old) self.old.entries place.at }
         ensures { Recalls b.now codes.new place self.new result }
     {
-        match self.judge_again(b, place, codes) {
+        match self.judge_once(b, place, codes) {
             Ok(table) => Ok(table),
             Err(Unheld::Bad) => Err(Refusal::NoIdentity),
             Err(Unheld::Full) => self.judge_alone(b, place, codes),

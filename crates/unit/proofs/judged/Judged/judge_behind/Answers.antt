@@ -1,23 +1,33 @@
 -- `unit::judged::Judged::judge_behind` meets its contract.
-use mathlib.Core.Path.{refl}
-use Rattle.unit.proofs.Entering.{behind_enters, behind_requires}
-use Rattle.unit.proofs.Recalling.{judged_own, judged_bad, full_bad, knows_part}
+use mathlib.Core.Path.{refl, ap, ◌∙◌}
+use native.Mathlib.Omega.{arith}
+use Rattle.std.specs.Prelude.{Err}
+use Rattle.unit.specs.declared.abbreviations.Unheld.{Unheld}
+use Rattle.unit.proofs.Entering.{behind_enters, behind_requires, moved_begun}
+use Rattle.unit.proofs.Recalling.{judged_own, judged_bad, knows_part}
 use Rattle.unit.proofs.judged.Judged.judge_behind.Goals as goal
 
 pub enter-requires : goal.enter-requires
 enter-requires c =
-    let k = judged_own _ _ _ _ _ c.requires.0 c.judge_table.ensures c.in-Ok.is in
-    behind_requires _ _ _ _ _ _ _ c.requires.1 c.in-Some.ensures.0 (c.in-Some.ensures.1, c.in-Some.ensures.2, c.in-Some.ensures.3) c.judge_table.auto.codes k.lies k.held
+    let r = c.requires.new in
+    let k = judged_own _ _ _ _ _ r.0 c.judge_on.ensures.table c.in-Ok.is in
+    behind_requires _ _ _ _ _ _ _ r.1 r.3.0 (r.3.1, r.3.2, r.3.3) c.judge_on.auto.codes k.lies k.held
 
-pub returns-in-Ok : goal.returns-in-Ok
-returns-in-Ok c =
-    let k = judged_own _ _ _ _ _ c.requires.0 c.judge_table.ensures c.in-Ok.is in
+pub returns-in-Ok-clause-table : goal.returns-in-Ok-clause-table
+returns-in-Ok-clause-table c =
+    let r = c.requires.new in
+    let k = judged_own _ _ _ _ _ r.0 c.judge_on.ensures.table c.in-Ok.is in
     knows_part _ _ _ _ _ _ refl k.ends
     (c.enter.ensures _
-    (behind_enters _ _ _ _ _ _ _ c.requires.1 c.in-Some.ensures.0 (c.in-Some.ensures.1, c.in-Some.ensures.2, c.in-Some.ensures.3) c.judge_table.auto.codes k.lies k.held c.requires.2))
+    (behind_enters _ _ _ _ _ _ _ r.1 r.3.0 (r.3.1, r.3.2, r.3.3) c.judge_on.auto.codes k.lies k.held r.2))
 
-pub returns-in_default : goal.returns-in_default
-returns-in_default c = (c.nothing.ensures.empty, c.nothing.ensures.memory _ _, λ e. absurd (full_bad e))
+pub returns-in-Err-Full-clause-begun : goal.returns-in-Err-Full-clause-begun
+returns-in-Err-Full-clause-begun c =
+    λ e. let f = c.requires.new.3 in
+    moved_begun _ _ _ _ _ c.args.place _ c.requires.new.1.room (omega (arith, f)) (omega (arith, f)) c.judge_on.auto.codes
+    (c.judge_on.ensures.begun (c.in-Err-Full.is ∙ ap (λ (u : Unheld). Err u) c.in-Err-Full.field-0-is)) c.copy_within.ensures.len c.copy_within.ensures.by_index.0
 
-pub returns-in-Err : goal.returns-in-Err
-returns-in-Err c = (c.nothing-in-Err.ensures.empty, c.nothing-in-Err.ensures.memory _ _, judged_bad _ _ _ c.judge_table.ensures _ c.in-Err.is)
+pub returns-in-Err-Bad-clause-table : goal.returns-in-Err-Bad-clause-table
+returns-in-Err-Bad-clause-table c =
+    let n = c.nothing-in-Err-Bad.ensures in
+    (n.empty, n.memory _ _, λ e. judged_bad _ _ _ c.judge_on.ensures.table _ c.in-Err-Bad.is c.in-Err-Bad.field-0-is)
