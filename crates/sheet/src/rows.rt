@@ -24,8 +24,9 @@ use index::reading::Index;
 const MARK_WORDS: usize = 16_384;
 
 // The index of a table: the letter of its lines, and our codes of the sections of its columns, which are worked out once and not for each line.
+// The index is borrowed; `IndexTable` holds it.
 #[derive(Clone, Copy)]
-pub struct IndexTable<'i, 'a> {
+pub struct IndexTableRef<'i, 'a> {
     pub letter: u8,
     pub index: &'i Index<'a>,
     pub sections: [usize; COLUMNS],
@@ -68,14 +69,14 @@ fn all_marked(marks: &Marks, n: usize) -> bool
     (1..n + 1).all(|row| marks.has(row))
 }
 
-impl<'i, 'a> IndexTable<'i, 'a> {
+impl<'i, 'a> IndexTableRef<'i, 'a> {
     // The table of an index with as many slots as marks at most, and rows within its units.
-    pub fn of(letter: u8, index: &'i Index<'a>) -> IndexTable<'i, 'a>
+    pub fn of(letter: u8, index: &'i Index<'a>) -> IndexTableRef<'i, 'a>
         requires { IndexHere index.now }
         ensures { (result.index.now ≡ index.now) × (result.letter ≡ letter) }
     {
         let sections = sections_of(index);
-        IndexTable {
+        IndexTableRef {
             letter,
             index,
             sections,
@@ -159,5 +160,116 @@ impl<'i, 'a> IndexTable<'i, 'a> {
                 self.put_row(row, self.index.identity_at(k), d, block * (row - 1));
             }
         }
+    }
+}
+
+// ---- a table that holds its index
+// The same, for a caller who has no place to keep the index beside it. Its answers are those of the borrowed one.
+#[derive(Drop)]
+pub struct IndexTable<'a> {
+    pub letter: u8,
+    pub index: Index<'a>,
+    pub sections: [usize; COLUMNS],
+    pub ghost here: { IndexHere index },
+    pub ghost coded: { Sections index sections (length index.codes) },
+}
+
+impl<'a> IndexTable<'a> {
+    // The table of an index with as many slots as marks at most, and rows within its units.
+    pub fn of(letter: u8, index: Index<'a>) -> IndexTable<'a>
+        requires { IndexHere index }
+        ensures { (result.index ≡ index.entry) × (result.letter ≡ letter) }
+    {
+        let borrowed = IndexTableRef::of(letter, &index);
+        IndexTable {
+            letter: borrowed.letter,
+            sections: borrowed.sections,
+            index,
+        }
+    }
+
+    fn borrowed(&self) -> IndexTableRef<'_, 'a>
+        ensures { (result.index.now ≡ self.now.index) × (result.letter ≡ self.now.letter) }
+    {
+        IndexTableRef {
+            letter: self.letter,
+            index: &self.index,
+            sections: self.sections,
+        }
+    }
+
+    pub fn is_single(&self) -> bool
+        ensures { result ≡ single self.now.index.rows self.now.index.identities 1 self.now.index.units }
+    {
+        self.borrowed().is_single()
+    }
+
+    // The bytes that the lines take.
+    pub fn size(&self) -> usize
+        ensures { result ≡ line_bytes * length self.now.index.codes * self.now.index.units }
+    {
+        self.borrowed().size()
+    }
+
+    // Stores the lines of all rows, each where its slot is met, over zeros. From the last slot to the first.
+    pub fn put_rows(&self, d: &mut [u8])
+        requires { (line_bytes * length self.now.index.codes * self.now.index.units ≤ length d.old) × (d.old ≡ zeros (length d.old)) }
+        ensures { d.new ≡ laid_out self.now.letter self.now.index (length d.old) }
+    {
+        self.borrowed().put_rows(d);
+    }
+}
+
+#[cfg(test)]
+mod tests {
+    use super::*;
+
+    // The index of the package of docs/FORMAT.md, 14: version 5, two columns, one unit, two slots. Identity 1 stands in the second slot, with row 1. The columns
+    // are info and abbrev, and row 1 has 20 bytes of the one and one byte of the other.
+    const ONE_UNIT: [u8; 64] = [
+        5, 0, 0, 0, 2, 0, 0, 0, 1, 0, 0, 0, 2, 0, 0, 0, // its head
+        0, 0, 0, 0, 0, 0, 0, 0, 1, 0, 0, 0, 0, 0, 0, 0, // identities
+        0, 0, 0, 0, 1, 0, 0, 0, // rows
+        1, 0, 0, 0, 3, 0, 0, 0, // columns
+        0, 0, 0, 0, 0, 0, 0, 0, // offsets
+        20, 0, 0, 0, 1, 0, 0, 0, // sizes
+    ];
+
+    // A table that leaves the function in which its index was read.
+    fn table_in(bytes: &[u8; 64]) -> Option<IndexTable<'_>> {
+        match Index::read(false, bytes) {
+            Ok(index) => Some(IndexTable::of(b'C', index)),
+            Err(_) => None,
+        }
+    }
+
+    #[test]
+    #[tactic(auto, unfolding(octets::specs::Octets::zeros))]
+    fn a_table_that_holds_its_index_is_laid_out(rt: HostRuntime) {
+        let Some(table) = table_in(&ONE_UNIT) else {
+            assert!(rt; false, "the index is not read");
+            return;
+        };
+        assert_eq!(rt; table.letter, b'C');
+        assert!(rt; table.is_single());
+        assert_eq!(rt; table.size(), 80);
+        let mut page = [0; 80];
+        table.put_rows(&mut page);
+        assert_eq!(rt;
+            page,
+            *b"C 0000000000000001 01 00000000 00000014\nC 0000000000000001 03 00000000 00000001\n"
+        );
+    }
+
+    #[test]
+    fn a_row_in_two_slots_is_found_by_a_table_that_holds_its_index(rt: HostRuntime) {
+        let mut twice = ONE_UNIT;
+        twice[16] = 2; // identity 2
+        twice[32] = 1; // of row 1 too
+        let Some(table) = table_in(&twice) else {
+            assert!(rt; false, "the index is not read");
+            return;
+        };
+        assert!(rt; !table.is_single());
     }
 }

@@ -8,7 +8,7 @@ ghost use Rattle.lookup.specs.Answers.{package_in};
 ghost use Rattle.sheet.specs.Held.{IndexHere};
 ghost use Rattle.sheet.specs.Laid.{letter_of, table_of, both_of, lines_of, TableFits, BothFit};
 
-use crate::rows::IndexTable;
+use crate::rows::IndexTableRef;
 use index::reading::Index;
 use lookup::package::Package;
 use numbers::refusals::Refusal;
@@ -40,7 +40,7 @@ pub fn measure_table(package: &Package, table: u32) -> Result<usize, Refusal>
     let Some(index) = index_of(package, table) else {
         return Ok(0);
     };
-    let t = IndexTable::of(letter_of(table), &index);
+    let t = IndexTableRef::of(letter_of(table), &index);
     if t.is_single() {
         Ok(t.size())
     } else {
@@ -55,7 +55,7 @@ fn write_table(package: &Package, table: u32, page: &mut [u8])
     ensures { page.new ≡ lines_of (table_of «package».now.bytes.now table) (length page.old) }
 {
     if let Some(index) = index_of(package, table) {
-        IndexTable::of(letter_of(table), &index).put_rows(page);
+        IndexTableRef::of(letter_of(table), &index).put_rows(page);
     }
 }
 

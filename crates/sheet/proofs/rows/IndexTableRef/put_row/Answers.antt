@@ -1,11 +1,11 @@
--- `sheet::rows::IndexTable::put_row` meets its contract.
+-- `sheet::rows::IndexTableRef::put_row` meets its contract.
 use mathlib.Core.Path.{ap}
 use Prim.Native.Nat.{◌+◌, ◌*◌, ◌≤◌, ◌<◌}
 use native.Mathlib.Omega.{arith}
 use lib.ListN.{length}
 use Rattle.sheet.proofs.LawIndex.{line_small}
-use Rattle.sheet.proofs.rows.IndexTable.put_row.Goals as goal
-use Rattle.sheet.proofs.rows.IndexTable.put_row.Goals.{In-loop-k}
+use Rattle.sheet.proofs.rows.IndexTableRef.put_row.Goals as goal
+use Rattle.sheet.proofs.rows.IndexTableRef.put_row.Goals.{In-loop-k}
 
 -- in a turn: the column is there, and there is room for its line
 column : (i : In-loop-k) → i.loop-k.k < length i.args.self.now.index.now.codes

@@ -1,10 +1,10 @@
--- `sheet::rows::IndexTable::put_row` meets its contract.
+-- `sheet::rows::IndexTableRef::put_row` meets its contract.
 use mathlib.Core.Path.{◌≡◌}
 use Prim.Native.Nat.{◌+◌, ◌*◌, ◌-◌}
 use lib.ListN.{length, drop}
 use Rattle.octets.specs.Octets.{placed}
 use Rattle.sheet.specs.Sheet.{cell_lines, row_lines}
-use Rattle.sheet.proofs.rows.IndexTable.put_row.Given as goal
+use Rattle.sheet.proofs.rows.IndexTableRef.put_row.Given as goal
 
 abbrev pub invariant-loop-k : goal.invariant-loop-k
 invariant-loop-k l = (length l.d ≡ length l.initial.d)

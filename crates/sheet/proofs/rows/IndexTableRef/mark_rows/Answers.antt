@@ -1,12 +1,12 @@
--- `sheet::rows::IndexTable::mark_rows` meets its contract.
+-- `sheet::rows::IndexTableRef::mark_rows` meets its contract.
 use mathlib.Core.Path.{◌≡◌, refl, sym, ap, ◌∙◌}
 use Prim.Native.Nat.{suc, ◌-◌, ◌/◌, ◌<◌}
 use native.Mathlib.Omega.{arith}
 use lib.ListN.{length}
 use Rattle.sheet.proofs.LawMarks.{length_with_mark}
 use Rattle.sheet.proofs.LawSifted.{sifted_none, sifted_free, sifted_twice, sifted_more}
-use Rattle.sheet.proofs.rows.IndexTable.mark_rows.Goals as goal
-use Rattle.sheet.proofs.rows.IndexTable.mark_rows.Goals.{After-row_at-row}
+use Rattle.sheet.proofs.rows.IndexTableRef.mark_rows.Goals as goal
+use Rattle.sheet.proofs.rows.IndexTableRef.mark_rows.Goals.{After-row_at-row}
 
 pub loop-k-init : goal.loop-k-init
 loop-k-init c = (refl, sifted_none _ _ _ _ c.requires.1 (omega (arith, ap (λ z. z.slots) c.head-k.ensures)))

@@ -1,11 +1,11 @@
--- `sheet::rows::IndexTable::put_rows` meets its contract.
+-- `sheet::rows::IndexTableRef::put_rows` meets its contract.
 use mathlib.Core.Path.{◌≡◌, refl, ap, ◌∙◌}
 use Prim.Native.Nat.{suc, ◌*◌, ◌-◌, ◌≤◌, ◌<◌}
 use native.Mathlib.Omega.{arith}
 use lib.ListN.{length}
 use Rattle.sheet.proofs.LawLaid.{laid_none, laid_free, laid_put, laid_all}
-use Rattle.sheet.proofs.rows.IndexTable.put_rows.Goals as goal
-use Rattle.sheet.proofs.rows.IndexTable.put_rows.Goals.{After-row_at-row}
+use Rattle.sheet.proofs.rows.IndexTableRef.put_rows.Goals as goal
+use Rattle.sheet.proofs.rows.IndexTableRef.put_rows.Goals.{After-row_at-row}
 
 pub loop-k-init : goal.loop-k-init
 loop-k-init c =
